@@ -1,3 +1,4 @@
 pub mod Tests
 pub mod ScanLaws
 pub mod Table
+pub mod Product

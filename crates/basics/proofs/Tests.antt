@@ -31,6 +31,10 @@ pub or-cases : (a b : Bool) → (a || b) ≡ true → (a ≡ true) ⊎ (b ≡ tr
 or-cases true b e = inl refl
 or-cases false b e = inr e
 
+pub or-none : (a b : Bool) → (a || b) ≡ false → (a ≡ false) × (b ≡ false)
+or-none true b e = absurd (false≢true (sym e))
+or-none false b e = (refl, e)
+
 -- a test whose failure fails the whole test holds where the whole holds: a conjunct, wherever it stands
 pub need : (b t : Bool) → (b ≡ false → t ≡ false) → t ≡ true → b ≡ true
 need true t h e = refl

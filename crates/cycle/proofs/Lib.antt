@@ -1,0 +1,5 @@
+pub mod Widths
+pub mod CountLaws
+pub mod TransferLaws
+pub mod CycleTable
+pub mod Examples
