@@ -1,0 +1,294 @@
+// The set-up and its frame (document 01, "The frame"): level rows, slave rows, the test of the frame, the row of a level,
+// the slave row that holds a range, and the place of an address in the slave store.
+ghost use mathlib.Core.Path.{_≡_};
+ghost use mathlib.Core.Bool.{true};
+ghost use Prim.Native.Nat.{_≤_, _<_, _*_};
+ghost use Rattle.frame.specs.Frame.{isRowCount, isMasterLength, levelInRange, isRising, isLastFifteen, levelRowFits, levelsFit, isTime, limitOf, slaveInRange, areApart, isApart, lengthsBefore, slaveRowFits, slavesFit, isFramed};
+ghost use Rattle.frame.specs.Find.{levelRow, holds, slaveRow, slaveStoreLength, placeOf, StartFits};
+
+pub struct LevelRow {
+    pub level: u32,
+    pub width: u32,
+    pub options: u32,
+}
+
+pub struct SlaveRow {
+    pub space: u32,
+    pub base: u32,
+    pub length: u32,
+    pub port: u32,
+    pub time: u32,
+}
+
+// The first `count` rows are the set-up's; whatever stands behind them is ignored.
+pub struct LevelRows {
+    pub rows: [LevelRow; 16],
+    pub count: usize,
+}
+
+pub struct SlaveRows {
+    pub rows: [SlaveRow; 16],
+    pub count: usize,
+}
+
+pub struct Setup {
+    pub levels: LevelRows,
+    pub slaves: SlaveRows,
+    // the length of the master store
+    pub master: u32,
+}
+
+// The row of a level.
+pub enum FoundLevel {
+    Missing,
+    Row(LevelRow),
+}
+
+// The slave row of a range, and where its bytes start in the slave store.
+pub enum FoundSlave {
+    Missing,
+    Row(SlaveRow, usize),
+}
+
+// Where a byte lies in the slave store.
+pub enum Place {
+    Nowhere,
+    At(usize),
+}
+
+// 1 to 16 rows.
+pub fn is_row_count(n: usize) -> bool
+    ensures { λ r. ⌜ r ≡ isRowCount n ⌝ }
+{
+    (1 <= n) & (n <= 16)
+}
+
+// A master store of 1 to 65,536 bytes.
+pub fn is_master_length(n: u32) -> bool
+    ensures { λ r. ⌜ r ≡ isMasterLength n ⌝ }
+{
+    (1 <= n) & (n <= 65536)
+}
+
+// Level 0 to 15, W of 2 or 4, options 0 to 7.
+fn is_level_in_range(row: LevelRow) -> bool
+    ensures { λ r. ⌜ r ≡ levelInRange row ⌝ }
+{
+    (row.level <= 15) & (cycle::is_width(row.width) & (row.options <= 7))
+}
+
+// The first row, or one with a higher level than the row before it.
+fn is_rising(levels: LevelRows, i: usize) -> bool
+    requires { ⌜ i < 16 ⌝ }
+    ensures { λ r. ⌜ r ≡ isRising levels i ⌝ }
+{
+    if i == 0 {
+        return true;
+    }
+    let before = levels.rows[i - 1];
+    let row = levels.rows[i];
+    before.level < row.level
+}
+
+// Level row i keeps the frame, with the rows before it.
+pub fn level_row_fits(levels: LevelRows, i: usize) -> bool
+    ensures { λ r. ⌜ r ≡ levelRowFits levels i ⌝ }
+{
+    if 16 <= i {
+        return false;
+    }
+    let row = levels.rows[i];
+    let last = (i + 1 < levels.count) | (row.level == 15);
+    is_level_in_range(row) & (is_rising(levels, i) & last)
+}
+
+// The level rows keep the frame.
+pub fn levels_fit(levels: LevelRows) -> bool
+    ensures { λ r. ⌜ r ≡ levelsFit levels ⌝ }
+{
+    let count = levels.count;
+    if !is_row_count(count) {
+        return false;
+    }
+    let mut i: usize = 0;
+    while i < count {
+        if !level_row_fits(levels, i) {
+            return false;
+        }
+        i += 1;
+    }
+    true
+}
+
+// A cycle time of 200 to 1,950 ns.
+fn is_time(t: u32) -> bool
+    ensures { λ r. ⌜ r ≡ isTime t ⌝ }
+{
+    (200 <= t) & (t <= 1950)
+}
+
+// Where the rows of a space end at the latest.
+fn limit_of(space: u32) -> u64
+    ensures { λ r. ⌜ r ≡ limitOf space ⌝ }
+{
+    if space == 0 { 65536 } else { 16777216 }
+}
+
+// Space, base, length, port, time and end of a slave row.
+fn is_slave_in_range(row: SlaveRow) -> bool
+    ensures { λ r. ⌜ r ≡ slaveInRange row ⌝ }
+{
+    let end = row.base as u64 + row.length as u64;
+    let placed = (row.base % 4 == 0) & ((row.length % 4 == 0) & ((row.length != 0) & (end <= limit_of(row.space))));
+    (row.space <= 1) & (placed & (cycle::is_port(row.port) & is_time(row.time)))
+}
+
+// Two rows share no byte.
+fn are_apart(a: SlaveRow, b: SlaveRow) -> bool
+    ensures { λ r. ⌜ r ≡ areApart a b ⌝ }
+{
+    let a_end = a.base as u64 + a.length as u64;
+    let b_end = b.base as u64 + b.length as u64;
+    (a.space != b.space) | ((a_end <= b.base as u64) | (b_end <= a.base as u64))
+}
+
+// Slave row i shares no byte with a row before it.
+fn is_apart(slaves: SlaveRows, i: usize) -> bool
+    requires { ⌜ i < 16 ⌝ }
+    ensures { λ r. ⌜ r ≡ isApart slaves i ⌝ }
+{
+    let row = slaves.rows[i];
+    let mut j: usize = 0;
+    while j < i {
+        let other = slaves.rows[j];
+        if !are_apart(other, row) {
+            return false;
+        }
+        j += 1;
+    }
+    true
+}
+
+// The lengths of the rows before row i, added.
+fn lengths_before(slaves: SlaveRows, i: usize) -> usize
+    requires { ⌜ i ≤ 16 ⌝ }
+    ensures { λ r. ⌜ r ≡ lengthsBefore slaves i ⌝ }
+    ensures { λ r. ⌜ r ≤ i * 4294967295 ⌝ }
+{
+    let mut sum: usize = 0;
+    let mut j: usize = 0;
+    while j < i {
+        let row = slaves.rows[j];
+        sum += row.length as usize;
+        j += 1;
+    }
+    sum
+}
+
+// Slave row i keeps the frame, with the rows before it.
+pub fn slave_row_fits(slaves: SlaveRows, i: usize) -> bool
+    ensures { λ r. ⌜ r ≡ slaveRowFits slaves i ⌝ }
+{
+    if 16 <= i {
+        return false;
+    }
+    let row = slaves.rows[i];
+    let total = lengths_before(slaves, i) + row.length as usize;
+    is_slave_in_range(row) & (is_apart(slaves, i) & (total <= 65536))
+}
+
+// The slave rows keep the frame.
+pub fn slaves_fit(slaves: SlaveRows) -> bool
+    ensures { λ r. ⌜ r ≡ slavesFit slaves ⌝ }
+{
+    let count = slaves.count;
+    if !is_row_count(count) {
+        return false;
+    }
+    let mut i: usize = 0;
+    while i < count {
+        if !slave_row_fits(slaves, i) {
+            return false;
+        }
+        i += 1;
+    }
+    true
+}
+
+// The set-up keeps the frame.
+pub fn is_framed(setup: Setup) -> bool
+    ensures { λ r. ⌜ r ≡ isFramed setup ⌝ }
+{
+    let levels = setup.levels;
+    let slaves = setup.slaves;
+    levels_fit(levels) & (slaves_fit(slaves) & is_master_length(setup.master))
+}
+
+// The rows that there are: a count above 16 breaks the frame, and there are no more rows than 16.
+fn present(count: usize) -> usize
+    ensures { λ r. ⌜ r ≡ Rattle.frame.specs.Frame.present count ⌝ }
+{
+    if count < 16 { count } else { 16 }
+}
+
+// The row of a level, whatever number the level is.
+pub fn level_row(levels: LevelRows, level: u32) -> FoundLevel
+    ensures { λ r. ⌜ r ≡ levelRow levels level ⌝ }
+{
+    let count = present(levels.count);
+    let mut i: usize = 0;
+    while i < count {
+        let row = levels.rows[i];
+        if row.level == level {
+            return FoundLevel::Row(row);
+        }
+        i += 1;
+    }
+    FoundLevel::Missing
+}
+
+// The range lies wholly inside the row.
+fn row_holds(row: SlaveRow, space: u32, address: u32, n: u32) -> bool
+    ensures { λ r. ⌜ r ≡ holds row space address n ⌝ }
+{
+    let end = address as u64 + n as u64;
+    let row_end = row.base as u64 + row.length as u64;
+    (row.space == space) & ((row.base <= address) & (end <= row_end))
+}
+
+// The slave row that wholly holds a range of a space.
+pub fn slave_row(slaves: SlaveRows, space: u32, address: u32, n: u32) -> FoundSlave
+    ensures { λ r. ⌜ r ≡ slaveRow slaves space address n ⌝ }
+    ensures { λ r. ⌜ StartFits r ⌝ }
+{
+    let count = present(slaves.count);
+    let mut start: usize = 0;
+    let mut i: usize = 0;
+    while i < count {
+        let row = slaves.rows[i];
+        if row_holds(row, space, address, n) {
+            return FoundSlave::Row(row, start);
+        }
+        start += row.length as usize;
+        i += 1;
+    }
+    FoundSlave::Missing
+}
+
+// How long the slave store is.
+pub fn slave_store_length(slaves: SlaveRows) -> usize
+    ensures { λ r. ⌜ r ≡ slaveStoreLength slaves ⌝ }
+{
+    lengths_before(slaves, present(slaves.count))
+}
+
+// Where the byte at an address of a space lies in the slave store.
+pub fn place_of(slaves: SlaveRows, space: u32, address: u32) -> Place
+    ensures { λ r. ⌜ r ≡ placeOf slaves space address ⌝ }
+{
+    let found = slave_row(slaves, space, address, 1);
+    match found {
+        FoundSlave::Missing => Place::Nowhere,
+        FoundSlave::Row(row, start) => Place::At(start + (address - row.base) as usize),
+    }
+}
