@@ -1,9 +1,8 @@
 // The set-up and its frame (document 01, "The frame"): level rows, slave rows, the test of the frame, the row of a level,
 // the slave row that holds a range, and the place of an address in the slave store.
 ghost use mathlib.Core.Path.{_≡_};
-ghost use mathlib.Core.Bool.{true};
 ghost use Prim.Native.Nat.{_≤_, _<_, _*_};
-ghost use Rattle.frame.specs.Frame.{isRowCount, isMasterLength, levelInRange, isRising, isLastFifteen, levelRowFits, levelsFit, isTime, limitOf, slaveInRange, areApart, isApart, lengthsBefore, slaveRowFits, slavesFit, isFramed};
+ghost use Rattle.frame.specs.Frame.{present, isRowCount, isMasterLength, levelInRange, isRising, levelRowFits, levelsFit, isTime, limitOf, slaveInRange, areApart, isApart, lengthsBefore, slaveRowFits, slavesFit, isFramed};
 ghost use Rattle.frame.specs.Find.{levelRow, holds, slaveRow, slaveStoreLength, placeOf, StartFits};
 
 pub struct LevelRow {
@@ -139,7 +138,8 @@ fn is_slave_in_range(row: SlaveRow) -> bool
     ensures { λ r. ⌜ r ≡ slaveInRange row ⌝ }
 {
     let end = row.base as u64 + row.length as u64;
-    let placed = (row.base % 4 == 0) & ((row.length % 4 == 0) & ((row.length != 0) & (end <= limit_of(row.space))));
+    let placed = (row.base % 4 == 0)
+        & ((row.length % 4 == 0) & ((row.length != 0) & (end <= limit_of(row.space))));
     (row.space <= 1) & (placed & (cycle::is_port(row.port) & is_time(row.time)))
 }
 
@@ -225,8 +225,8 @@ pub fn is_framed(setup: Setup) -> bool
 }
 
 // The rows that there are: a count above 16 breaks the frame, and there are no more rows than 16.
-fn present(count: usize) -> usize
-    ensures { λ r. ⌜ r ≡ Rattle.frame.specs.Frame.present count ⌝ }
+fn rows_present(count: usize) -> usize
+    ensures { λ r. ⌜ r ≡ present count ⌝ }
 {
     if count < 16 { count } else { 16 }
 }
@@ -235,7 +235,7 @@ fn present(count: usize) -> usize
 pub fn level_row(levels: LevelRows, level: u32) -> FoundLevel
     ensures { λ r. ⌜ r ≡ levelRow levels level ⌝ }
 {
-    let count = present(levels.count);
+    let count = rows_present(levels.count);
     let mut i: usize = 0;
     while i < count {
         let row = levels.rows[i];
@@ -261,7 +261,7 @@ pub fn slave_row(slaves: SlaveRows, space: u32, address: u32, n: u32) -> FoundSl
     ensures { λ r. ⌜ r ≡ slaveRow slaves space address n ⌝ }
     ensures { λ r. ⌜ StartFits r ⌝ }
 {
-    let count = present(slaves.count);
+    let count = rows_present(slaves.count);
     let mut start: usize = 0;
     let mut i: usize = 0;
     while i < count {
@@ -279,7 +279,7 @@ pub fn slave_row(slaves: SlaveRows, space: u32, address: u32, n: u32) -> FoundSl
 pub fn slave_store_length(slaves: SlaveRows) -> usize
     ensures { λ r. ⌜ r ≡ slaveStoreLength slaves ⌝ }
 {
-    lengths_before(slaves, present(slaves.count))
+    lengths_before(slaves, rows_present(slaves.count))
 }
 
 // Where the byte at an address of a space lies in the slave store.
