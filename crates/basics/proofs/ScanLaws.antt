@@ -105,3 +105,27 @@ first-least f i (suc k) d j l h e =
     (λ q. absurd (false≢true (sym n ∙ rw (← q) at e)))
     (λ s. first-least f (suc i) k d j s (omega arith) e)
     (eq-or-lt-of-le l)))
+
+-- where one of those searched satisfies f, what is found does
+pub first-finds : (f : ℕ → Bool) (i k d j : ℕ) → i ≤ j → j < i + k → f j ≡ true
+    → (f (firstFrom f i k d) ≡ true) × (i ≤ firstFrom f i k d) × (firstFrom f i k d < i + k)
+unfolding firstFrom
+first-finds f i zero d j l h e = absurd (omega arith)
+first-finds f i (suc k) d j l h e =
+    by-test (f i)
+    (λ t. rw t (t, omega arith, omega arith))
+    (λ n.
+    rw n
+    (⊎-elim
+    (λ q. absurd (false≢true (sym n ∙ rw (← q) at e)))
+    (λ s. let r = first-finds f (suc i) k d j s (omega arith) e in (r .0, omega (arith, r .1), omega (arith, r .2)))
+    (eq-or-lt-of-le l)))
+
+-- where none does, the default is found
+pub first-default : (f : ℕ → Bool) (i k d : ℕ) → ((j : ℕ) → i ≤ j → j < i + k → f j ≡ false) → firstFrom f i k d ≡ d
+unfolding firstFrom
+first-default f i zero d h = refl
+first-default f i (suc k) d h = rw (h i (omega arith) (omega arith)) (first-default f (suc i) k d (λ j l m. h j (omega arith) (omega arith)))
+
+pub any-none : (f : ℕ → Bool) (n : ℕ) → anyBelow f n ≡ false → (i : ℕ) → i < n → f i ≡ false
+any-none f n e i h = by-test (f i) (λ t. absurd (false≢true (sym e ∙ any-hit f i n h t))) (λ p. p)

@@ -1,0 +1,132 @@
+-- Laws of the line, the line rule and the winner.
+use Prim.Native.Nat.{ℕ, zero, suc, _<_, _≤_}
+use mathlib.Core.Path.{_≡_, refl, sym, ap, _∙_}
+use mathlib.Core.Bool.{Bool, true, false, cond, not, _&&_, and-true, false≢true}
+use mathlib.Core.Logic.{_⊎_, inl, inr}
+use mathlib.Core.List.{List}
+use native.Mathlib.Omega.{arith}
+use borrow.Author.Tests.{eqb-false, ne-eqb, not-true}
+use lib.ListN.{length, getD, replicate, getD-replicate, length-replicate, List·getD-eq-default}
+use lib.Seq.{ext-getD}
+use lib.Dec.{eqb}
+use Rattle.basics.specs.Scan.{anyBelow, firstFrom}
+use Rattle.basics.proofs.ScanLaws.{any-hit, any-ext, any-some, any-mono, any-none, first-finds, first-default}
+use Rattle.basics.proofs.Tests.{by-test, and-left, and-right}
+use Rattle.channel.specs.declared.Phase.{Phase}
+use Rattle.channel.specs.declared.Phase.the-variants.{Arbitrating, Granted}
+use Rattle.channel.specs.declared.Channel.{Channel}
+use Rattle.channel.specs.declared.Request.{Request}
+use Rattle.channel.specs.Channel.{ownerOf, hasRequest, requestOf, Shaped}
+use Rattle.channel.specs.Line.{isInactive, waits, drives, lineActive, line, asks, othersAsk, cleared, timed, lineRule, winner}
+
+-- past the last level there is no request
+pub no-request : (ch : Channel) (l : ℕ) → Shaped ch → 16 ≤ l
+    → requestOf ch l ≡ record { direction = 0; space = 0; address = 0; left = 0; offset = 0 }
+no-request ch l s h =
+    λ i. record {
+      direction = List·getD-eq-default (ch .direction) 0 {n = l} (omega (arith, s .direction)) i;
+      space = List·getD-eq-default (ch .space) 0 {n = l} (omega (arith, s .space)) i;
+      address = List·getD-eq-default (ch .address) 0 {n = l} (omega (arith, s .address)) i;
+      left = List·getD-eq-default (ch .left) 0 {n = l} (omega (arith, s .left)) i;
+      offset = List·getD-eq-default (ch .offset) 0 {n = l} (omega (arith, s .offset)) i;
+    }
+
+-- what it takes to drive the line, as facts
+pub record Drives (left : List ℕ) (inactive : List Bool) (owner l : ℕ) : Type 0 where
+  pub request : hasRequest left l ≡ true
+  pub active : isInactive inactive l ≡ false
+  pub other : l ≡ owner → ⊥
+
+module _ (left : List ℕ) (inactive : List Bool) (owner l : ℕ) where
+  pub drives-is : drives left inactive owner l ≡ true → Drives left inactive owner l
+  unfolding drives
+  drives-is e =
+      let r = and-right (hasRequest left l) _ e in
+      record {
+        request = and-left _ _ e;
+        active = not-true _ (and-left _ _ r);
+        other = eqb-false l owner (not-true _ (and-right (not (isInactive inactive l)) _ r));
+      }
+
+  pub drives-by : Drives left inactive owner l → drives left inactive owner l ≡ true
+  unfolding drives
+  drives-by d = rw (d .request, d .active, ne-eqb l owner (d .other))
+
+  pub waits-is : waits left inactive l ≡ true → (hasRequest left l ≡ true) × (isInactive inactive l ≡ false)
+  unfolding waits
+  waits-is e = (and-left _ _ e, not-true _ (and-right (hasRequest left l) _ e))
+
+-- while arbitrating, whoever waits drives the line
+pub waits-drives : (left : List ℕ) (inactive : List Bool) (l : ℕ) → l < 16 → drives left inactive 16 l ≡ waits left inactive l
+unfolding drives waits
+waits-drives left inactive l h = rw (ne-eqb l 16 (omega arith), and-true)
+
+-- the line, from and to one level that drives it
+pub line-by : (left : List ℕ) (inactive : List Bool) (phase : Phase) (l : ℕ) → l < 16 → Drives left inactive (ownerOf phase) l
+    → lineActive left inactive phase ≡ true
+unfolding lineActive
+line-by left inactive phase l h d = any-hit _ l 16 h (drives-by left inactive (ownerOf phase) l d)
+
+pub line-some : (left : List ℕ) (inactive : List Bool) (phase : Phase) → lineActive left inactive phase ≡ true
+    → (l : ℕ) × (l < 16) × Drives left inactive (ownerOf phase) l
+unfolding lineActive
+line-some left inactive phase e = let s = any-some _ 16 e in (s .0, s .1, drives-is left inactive (ownerOf phase) (s .0) (s .2))
+
+-- the asked time does not matter to the line
+pub line-timed : (ch : Channel) → line (timed ch) ≡ line ch
+unfolding timed
+line-timed ch = refl
+
+pub cleared-on : (ch : Channel) → line ch ≡ true → cleared ch ≡ ch
+unfolding cleared
+cleared-on ch t = rw t
+
+-- without marks, the line is driven by whoever asks
+cleared-off : (ch : Channel) → line ch ≡ false → (l : ℕ) → l < 16
+    → drives (cleared ch .left) (cleared ch .inactive) (ownerOf (cleared ch .phase)) l ≡ asks (ch .left) (ownerOf (ch .phase)) l
+unfolding cleared drives asks
+cleared-off ch f l h = rw (f, getD-replicate 16 l false false h)
+
+drives-asks : (left : List ℕ) (inactive : List Bool) (owner l : ℕ) → drives left inactive owner l ≡ true → asks left owner l ≡ true
+unfolding asks
+drives-asks left inactive owner l e =
+    let d = drives-is left inactive owner l e in
+    rw (d .request, ne-eqb l owner (d .other))
+
+-- after the line rule the line is active exactly when a level other than the owner has an open request
+pub line-after : (ch : Channel) → line (lineRule ch) ≡ othersAsk ch
+unfolding lineActive othersAsk
+line-after ch =
+    line-timed (cleared ch)
+    ∙ by-test (line ch)
+    (λ t.
+    rw (cleared-on ch t, t)
+    (sym
+    (any-mono (drives (ch .left) (ch .inactive) (ownerOf (ch .phase))) (asks (ch .left) (ownerOf (ch .phase))) 16
+    (λ l h e. drives-asks (ch .left) (ch .inactive) (ownerOf (ch .phase)) l e) t)))
+    (λ f.
+    any-ext (drives (cleared ch .left) (cleared ch .inactive) (ownerOf (cleared ch .phase))) (asks (ch .left) (ownerOf (ch .phase))) 16 (cleared-off ch f))
+
+-- the winner waits, or nobody does and it is 15
+pub winner-is : (left : List ℕ) (inactive : List Bool)
+    → ((waits left inactive (winner left inactive) ≡ true) × (winner left inactive < 16))
+    ⊎ ((winner left inactive ≡ 15) × (anyBelow (waits left inactive) 16 ≡ false))
+unfolding winner
+winner-is left inactive =
+    by-test (anyBelow (waits left inactive) 16)
+    (λ t.
+    let s = any-some (waits left inactive) 16 t in
+    let r = first-finds (waits left inactive) 0 16 15 (s .0) (omega arith) (omega (arith, s .1)) (s .2) in
+    inl (r .0, omega (arith, r .2)))
+    (λ f. inr (first-default (waits left inactive) 0 16 15 (λ j l h. any-none (waits left inactive) 16 f j (omega arith)), f))
+
+-- while arbitrating, the line is not active where nobody waits
+pub none-waits : (ch : Channel) → ch .phase ≡ Arbitrating → anyBelow (waits (ch .left) (ch .inactive)) 16 ≡ false → line ch ≡ false
+unfolding lineActive
+none-waits ch p f = rw p (any-ext _ (waits (ch .left) (ch .inactive)) 16 (waits-drives (ch .left) (ch .inactive)) ∙ f)
+
+-- an array of marks of which none is set
+pub no-marks : (inactive : List Bool) → length inactive ≡ 16 → ((l : ℕ) → l < 16 → isInactive inactive l ≡ false) → inactive ≡ replicate 16 false
+no-marks inactive n h =
+    ext-getD false inactive (replicate 16 false) (n ∙ sym (length-replicate 16 false))
+    (λ l k. h l (omega (arith, n)) ∙ sym (getD-replicate 16 l false false (omega (arith, n))))

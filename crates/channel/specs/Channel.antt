@@ -1,0 +1,65 @@
+-- Document 01, "The frame", its last part: requests, the phase, and the channel after set-up.
+use Prim.Native.Nat.{ℕ}
+use mathlib.Core.Path.{_≡_}
+use mathlib.Core.Bool.{Bool, true, false, cond, not}
+use mathlib.Core.List.{List}
+use lib.ListN.{length, getD, replicate}
+use lib.Dec.{eqb}
+use Rattle.refusal.specs.declared.Refusal.the-variants.{Unsound}
+use Rattle.refusal.specs.declared.Verdict.the-variants.{Accepted, Refused}
+use Rattle.frame.specs.declared.Setup.{Setup}
+use Rattle.frame.specs.Frame.{isFramed}
+use Rattle.channel.specs.declared.Phase.{Phase}
+use Rattle.channel.specs.declared.Phase.the-variants.{Arbitrating, Granted}
+use Rattle.channel.specs.declared.Asked.the-variants.{Never}
+use Rattle.channel.specs.declared.Channel.{Channel}
+use Rattle.channel.specs.declared.Request.{Request}
+use Rattle.channel.specs.declared.Judged.{Judged}
+
+-- "The channel is arbitrating, or granted to one level.": the owner's level; while arbitrating 16, which is no level
+abbrev pub ownerOf : Phase → ℕ
+ownerOf Arbitrating = 16
+ownerOf (Granted owner) = owner
+
+-- "A level has at most one open request.": it has one while bytes of it are left
+abbrev pub hasRequest : List ℕ → ℕ → Bool
+hasRequest left l = not (eqb (getD left l 0) 0)
+
+-- "A request is level, direction .., space, address, length .. and an offset in the master store.": what is left of a level's
+abbrev pub requestOf : Channel → ℕ → Request
+requestOf ch l =
+    record {
+      direction = getD (ch .direction) l 0;
+      space = getD (ch .space) l 0;
+      address = getD (ch .address) l 0;
+      left = getD (ch .left) l 0;
+      offset = getD (ch .offset) l 0;
+    }
+
+-- "After set-up: arbitrating, clock 0, no requests, no marks."
+abbrev pub fresh : Channel
+fresh =
+    record {
+      phase = Arbitrating;
+      asked = Never;
+      clock = 0;
+      inactive = replicate 16 false;
+      direction = replicate 16 0;
+      space = replicate 16 0;
+      address = replicate 16 0;
+      left = replicate 16 0;
+      offset = replicate 16 0;
+    }
+
+-- "9: set-up ..: the set-up breaks the frame"; "A refused set-up gives the fresh channel"
+unfoldable pub setUp : Setup → Judged
+setUp setup = record { channel = fresh; verdict = cond (isFramed setup) Accepted (Refused Unsound) }
+
+-- every channel of the program: its arrays have a place for each level
+pub record Shaped (ch : Channel) : Type 0 where
+  pub inactive : length (ch .inactive) ≡ 16
+  pub direction : length (ch .direction) ≡ 16
+  pub space : length (ch .space) ≡ 16
+  pub address : length (ch .address) ≡ 16
+  pub left : length (ch .left) ≡ 16
+  pub offset : length (ch .offset) ≡ 16

@@ -1,0 +1,208 @@
+// The channel (document 01, "The frame", "The line rule"): its phase, asked time, clock, marks and requests; the line
+// -PREEMPT, the line rule, the winner of an arbitration, and the channel after set-up.
+use frame::Setup;
+use refusal::Refusal;
+use refusal::Verdict;
+ghost use mathlib.Core.Path.{_≡_};
+ghost use Rattle.channel.specs.Channel.{ownerOf, requestOf, fresh, setUp};
+ghost use Rattle.channel.specs.Line.{lineActive, winner, cleared, askedNow, timed, lineRule};
+
+// The channel is arbitrating, or granted to one level.
+pub enum Phase {
+    Arbitrating,
+    Granted(u8),
+}
+
+// While granted, perhaps an asked time. A time of 0 is not the same as none.
+pub enum Asked {
+    Never,
+    At(u32),
+}
+
+// The request arrays are indexed by level number. A level whose `left` is 0 has no open request, and zeros in the others.
+pub struct Channel {
+    pub phase: Phase,
+    pub asked: Asked,
+    pub clock: u32,
+    pub inactive: [bool; 16],
+    pub direction: [u32; 16],
+    pub space: [u32; 16],
+    pub address: [u32; 16],
+    pub left: [u32; 16],
+    pub offset: [u32; 16],
+}
+
+// What is left of a request, or a request that is posted.
+pub struct Request {
+    pub direction: u32,
+    pub space: u32,
+    pub address: u32,
+    pub left: u32,
+    pub offset: u32,
+}
+
+// A channel that a call gives back, and whether the call was accepted.
+pub struct Judged {
+    pub channel: Channel,
+    pub verdict: Verdict,
+}
+
+// The owner's level; while arbitrating 16, which is no level.
+pub fn owner_of(phase: Phase) -> u8
+    ensures { λ r. ⌜ r ≡ ownerOf phase ⌝ }
+{
+    match phase {
+        Phase::Arbitrating => 16,
+        Phase::Granted(owner) => owner,
+    }
+}
+
+// The request of a level.
+pub fn request_of(channel: Channel, level: usize) -> Request
+    ensures { λ r. ⌜ r ≡ requestOf channel level ⌝ }
+{
+    if 16 <= level {
+        return Request {
+            direction: 0,
+            space: 0,
+            address: 0,
+            left: 0,
+            offset: 0,
+        };
+    }
+    Request {
+        direction: channel.direction[level],
+        space: channel.space[level],
+        address: channel.address[level],
+        left: channel.left[level],
+        offset: channel.offset[level],
+    }
+}
+
+// -PREEMPT: some level other than the owner has an open request and isn't inactive.
+pub fn line_active<'a>(left: &'a [u32; 16], inactive: &'a [bool; 16], phase: Phase) -> bool
+    ensures { λ r. ⌜ r ≡ lineActive (now (left .entry)) (now (inactive .entry)) phase ⌝ }
+{
+    let owner = owner_of(phase) as usize;
+    let mut level: usize = 0;
+    while level < 16 {
+        if (left[level] != 0) & (!inactive[level] & (level != owner)) {
+            return true;
+        }
+        level += 1;
+    }
+    false
+}
+
+// The lowest-numbered level with an open request and no inactive mark; with none, 15.
+pub fn winner_of<'a>(left: &'a [u32; 16], inactive: &'a [bool; 16]) -> u8
+    ensures { λ r. ⌜ r ≡ winner (now (left .entry)) (now (inactive .entry)) ⌝ }
+{
+    let mut level: u8 = 0;
+    while level < 16 {
+        let at = level as usize;
+        if (left[at] != 0) & !inactive[at] {
+            return level;
+        }
+        level += 1;
+    }
+    15
+}
+
+// Line rule 1: if the line is not active, every inactive mark is removed.
+fn clear_marks(channel: Channel) -> Channel
+    ensures { λ r. ⌜ r ≡ cleared channel ⌝ }
+{
+    let phase = channel.phase;
+    if line_active(&channel.left, &channel.inactive, phase) {
+        return channel;
+    }
+    let mut next = channel;
+    next.inactive = [false; 16];
+    next
+}
+
+// Line rule 2: while granted, an active line with no asked time sets it to the clock; while arbitrating there is none.
+fn asked_now(phase: Phase, asked: Asked, active: bool, clock: u32) -> Asked
+    ensures { λ r. ⌜ r ≡ askedNow phase asked active clock ⌝ }
+{
+    match phase {
+        Phase::Arbitrating => Asked::Never,
+        Phase::Granted(_) => match asked {
+            Asked::At(t) => Asked::At(t),
+            Asked::Never => if active {
+                Asked::At(clock)
+            } else {
+                Asked::Never
+            },
+        },
+    }
+}
+
+fn set_asked(channel: Channel) -> Channel
+    ensures { λ r. ⌜ r ≡ timed channel ⌝ }
+{
+    let phase = channel.phase;
+    let asked = channel.asked;
+    let active = line_active(&channel.left, &channel.inactive, phase);
+    let now = asked_now(phase, asked, active, channel.clock);
+    let inactive = channel.inactive;
+    let direction = channel.direction;
+    let space = channel.space;
+    let address = channel.address;
+    let left = channel.left;
+    let offset = channel.offset;
+    Channel {
+        phase: phase,
+        asked: now,
+        clock: channel.clock,
+        inactive: inactive,
+        direction: direction,
+        space: space,
+        address: address,
+        left: left,
+        offset: offset,
+    }
+}
+
+// The line rule, after each accepted post and step.
+pub fn line_rule(channel: Channel) -> Channel
+    ensures { λ r. ⌜ r ≡ lineRule channel ⌝ }
+{
+    set_asked(clear_marks(channel))
+}
+
+// After set-up: arbitrating, clock 0, no requests, no marks.
+pub fn fresh_channel() -> Channel
+    ensures { λ r. ⌜ r ≡ fresh ⌝ }
+{
+    Channel {
+        phase: Phase::Arbitrating,
+        asked: Asked::Never,
+        clock: 0,
+        inactive: [false; 16],
+        direction: [0; 16],
+        space: [0; 16],
+        address: [0; 16],
+        left: [0; 16],
+        offset: [0; 16],
+    }
+}
+
+// The set-up call: the fresh channel, and whether the set-up keeps the frame.
+pub fn set_up(setup: Setup) -> Judged
+    ensures { λ r. ⌜ r ≡ setUp setup ⌝ }
+{
+    let channel = fresh_channel();
+    if frame::is_framed(setup) {
+        Judged {
+            channel: channel,
+            verdict: Verdict::Accepted,
+        }
+    } else {
+        Judged {
+            channel: channel,
+            verdict: Verdict::Refused(Refusal::Unsound),
+        }
+    }
+}
