@@ -7,7 +7,7 @@ use mathlib.Core.List.{List}
 use native.Mathlib.Omega.{arith}
 use borrow.Author.Tests.{eqb-false, ne-eqb, not-true}
 use lib.ListN.{length, getD, replicate, getD-replicate, length-replicate, List·getD-eq-default}
-use lib.Seq.{ext-getD}
+use lib.Seq.{ext-getD, set-out}
 use lib.Dec.{eqb}
 use Rattle.basics.specs.Scan.{anyBelow, firstFrom}
 use Rattle.basics.proofs.ScanLaws.{any-hit, any-ext, any-some, any-mono, any-none, first-finds, first-default}
@@ -16,7 +16,7 @@ use Rattle.channel.specs.declared.Phase.{Phase}
 use Rattle.channel.specs.declared.Phase.the-variants.{Arbitrating, Granted}
 use Rattle.channel.specs.declared.Channel.{Channel}
 use Rattle.channel.specs.declared.Request.{Request}
-use Rattle.channel.specs.Channel.{ownerOf, hasRequest, requestOf, Shaped}
+use Rattle.channel.specs.Channel.{ownerOf, hasRequest, requestOf, withRequest, Shaped}
 use Rattle.channel.specs.Line.{isInactive, waits, drives, lineActive, line, asks, othersAsk, cleared, timed, lineRule, winner}
 
 -- past the last level there is no request
@@ -29,6 +29,21 @@ no-request ch l s h =
       address = List·getD-eq-default (ch .address) 0 {n = l} (omega (arith, s .address)) i;
       left = List·getD-eq-default (ch .left) 0 {n = l} (omega (arith, s .left)) i;
       offset = List·getD-eq-default (ch .offset) 0 {n = l} (omega (arith, s .offset)) i;
+    }
+
+pub no-place : (ch : Channel) (l : ℕ) (q : Request) → Shaped ch → 16 ≤ l → withRequest ch l q ≡ ch
+unfolding withRequest
+no-place ch l q s h =
+    λ i. record {
+      phase = ch .phase;
+      asked = ch .asked;
+      clock = ch .clock;
+      inactive = ch .inactive;
+      direction = set-out (ch .direction) l (q .direction) (omega (arith, s .direction)) i;
+      space = set-out (ch .space) l (q .space) (omega (arith, s .space)) i;
+      address = set-out (ch .address) l (q .address) (omega (arith, s .address)) i;
+      left = set-out (ch .left) l (q .left) (omega (arith, s .left)) i;
+      offset = set-out (ch .offset) l (q .offset) (omega (arith, s .offset)) i;
     }
 
 -- what it takes to drive the line, as facts

@@ -3,7 +3,7 @@ use Prim.Native.Nat.{ℕ}
 use mathlib.Core.Path.{_≡_}
 use mathlib.Core.Bool.{Bool, true, false, cond, not}
 use mathlib.Core.List.{List}
-use lib.ListN.{length, getD, replicate}
+use lib.ListN.{length, getD, set, replicate}
 use lib.Dec.{eqb}
 use Rattle.refusal.specs.declared.Refusal.the-variants.{Unsound}
 use Rattle.refusal.specs.declared.Verdict.the-variants.{Accepted, Refused}
@@ -34,6 +34,21 @@ requestOf ch l =
       address = getD (ch .address) l 0;
       left = getD (ch .left) l 0;
       offset = getD (ch .offset) l 0;
+    }
+
+-- the channel with a level's request laid in its place
+unfoldable pub withRequest : Channel → ℕ → Request → Channel
+withRequest ch l q =
+    record {
+      phase = ch .phase;
+      asked = ch .asked;
+      clock = ch .clock;
+      inactive = ch .inactive;
+      direction = set (ch .direction) l (q .direction);
+      space = set (ch .space) l (q .space);
+      address = set (ch .address) l (q .address);
+      left = set (ch .left) l (q .left);
+      offset = set (ch .offset) l (q .offset);
     }
 
 -- "After set-up: arbitrating, clock 0, no requests, no marks."

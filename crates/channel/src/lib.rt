@@ -4,7 +4,7 @@ use frame::Setup;
 use refusal::Refusal;
 use refusal::Verdict;
 ghost use mathlib.Core.Path.{_≡_};
-ghost use Rattle.channel.specs.Channel.{ownerOf, requestOf, fresh, setUp};
+ghost use Rattle.channel.specs.Channel.{ownerOf, requestOf, withRequest, fresh, setUp};
 ghost use Rattle.channel.specs.Line.{lineActive, winner, cleared, askedNow, timed, lineRule};
 
 // The channel is arbitrating, or granted to one level.
@@ -77,6 +77,22 @@ pub fn request_of(channel: Channel, level: usize) -> Request
         left: channel.left[level],
         offset: channel.offset[level],
     }
+}
+
+// The channel with a level's request laid in its place.
+pub fn put_request(channel: Channel, level: usize, request: Request) -> Channel
+    ensures { λ r. ⌜ r ≡ withRequest channel level request ⌝ }
+{
+    if 16 <= level {
+        return channel;
+    }
+    let mut next = channel;
+    next.direction[level] = request.direction;
+    next.space[level] = request.space;
+    next.address[level] = request.address;
+    next.left[level] = request.left;
+    next.offset[level] = request.offset;
+    next
 }
 
 // -PREEMPT: some level other than the owner has an open request and isn't inactive.

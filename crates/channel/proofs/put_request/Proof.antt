@@ -1,0 +1,71 @@
+use Rattle.channel.proofs.LineLaws.{no-place}
+use Rattle.channel.specs.Channel.{Shaped, withRequest}
+use borrow.Author.Needs.{needs}
+use mathlib.Core.Path.{_≡_, refl, sym, ap, _∙_}
+use native.Mathlib.Omega.{arith}
+use Rattle.channel.proofs.put_request.Statement.{statement}
+use Rattle.channel.proofs.put_request.Tie as tie
+
+returns : tie.Need-returns
+returns c =
+    let a = c .before .args in
+    let s : Shaped (a .channel) = record {
+      inactive = search needs;
+      direction = search needs;
+      space = search needs;
+      address = search needs;
+      left = search needs;
+      offset = search needs;
+    } in
+    sym (no-place (a .channel) (a .level) (a .request) s (omega arith))
+
+mul-next : tie.Need-mul-next
+mul-next c = search needs
+
+element-write-next : tie.Need-element-write-next
+element-write-next c = search needs
+
+mul-next-2 : tie.Need-mul-next-2
+mul-next-2 c = search needs
+
+element-write-next-2 : tie.Need-element-write-next-2
+element-write-next-2 c = search needs
+
+mul-next-3 : tie.Need-mul-next-3
+mul-next-3 c = search needs
+
+element-write-next-3 : tie.Need-element-write-next-3
+element-write-next-3 c = search needs
+
+mul-next-4 : tie.Need-mul-next-4
+mul-next-4 c = search needs
+
+element-write-next-4 : tie.Need-element-write-next-4
+element-write-next-4 c = search needs
+
+mul-next-5 : tie.Need-mul-next-5
+mul-next-5 c = search needs
+
+element-write-next-5 : tie.Need-element-write-next-5
+element-write-next-5 c = search needs
+
+returns-2 : tie.Need-returns-2
+unfolding withRequest
+returns-2 c = refl
+
+pub put-request-spec : {M : Type 1} → statement M
+put-request-spec =
+    tie.close
+    (tie.spec
+    returns
+    mul-next
+    element-write-next
+    mul-next-2
+    element-write-next-2
+    mul-next-3
+    element-write-next-3
+    mul-next-4
+    element-write-next-4
+    mul-next-5
+    element-write-next-5
+    returns-2)

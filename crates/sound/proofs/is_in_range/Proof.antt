@@ -1,0 +1,15 @@
+use Rattle.sound.specs.Request.{isInRange}
+use borrow.Author.Needs.{needs}
+use mathlib.Core.Path.{_≡_, refl, sym, ap, _∙_}
+use Rattle.sound.proofs.is_in_range.Statement.{statement}
+use Rattle.sound.proofs.is_in_range.Tie as tie
+
+is-length-requires : tie.Need-is-length-requires
+is-length-requires c κs = search needs
+
+returns : tie.Need-returns
+unfolding isInRange
+returns c = rw (c .before .before .is-length .ensures)
+
+pub is-in-range-spec : {M : Type 1} → statement M
+is-in-range-spec = tie.close (tie.spec is-length-requires returns)

@@ -1,0 +1,43 @@
+-- What a request, or what is left of one, meets: refusals 3, 4 and 5; and how long its transfers take.
+use Prim.Native.Nat.{ℕ, _+_}
+use mathlib.Core.Bool.{Bool, cond, not, _&&_}
+use lib.Dec.{leb, ltb}
+use Rattle.refusal.specs.declared.Refusal.the-variants.{OutOfRange, OutsideSlave, OutsideMaster}
+use Rattle.refusal.specs.declared.Verdict.{Verdict}
+use Rattle.refusal.specs.declared.Verdict.the-variants.{Accepted, Refused}
+use Rattle.cycle.specs.Cycle.{isLength, transferTime}
+use Rattle.frame.specs.declared.Setup.{Setup}
+use Rattle.channel.specs.declared.Request.{Request}
+use Rattle.sound.specs.Rows.{isSlave, slaveFor, levelOf, slaveOf}
+
+-- "3: post: length 0 or above 4,096, direction or space above 1"
+unfoldable pub isInRange : Request → Bool
+isInRange q = isLength (q .left) && (leb (q .direction) 1 && leb (q .space) 1)
+
+-- "4: post: the range isn't wholly inside one slave row of the space"
+abbrev pub isInsideSlave : Setup → Request → Bool
+isInsideSlave setup q = isSlave (slaveFor (setup .slaves) q)
+
+-- "5: post: the range isn't wholly inside the master store"
+abbrev pub isOutsideMaster : Setup → Request → Bool
+isOutsideMaster setup q = ltb (setup .master) (q .offset + q .left)
+
+unfoldable pub requestVerdict : Setup → Request → Verdict
+requestVerdict setup q =
+    cond
+    (not (isInRange q))
+    (Refused OutOfRange)
+    (cond
+    (not (isInsideSlave setup q))
+    (Refused OutsideSlave)
+    (cond (isOutsideMaster setup q) (Refused OutsideMaster) Accepted))
+
+-- the time of the transfer of a level that holds the next byte of a request: the running or next one
+unfoldable pub transferOf : Setup → ℕ → Request → ℕ
+transferOf setup l q =
+    transferTime
+    (levelOf (setup .levels) l .width)
+    (slaveOf (setup .slaves) q .port)
+    (slaveOf (setup .slaves) q .time)
+    (q .address)
+    (q .left)
