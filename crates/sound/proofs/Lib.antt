@@ -1,1 +1,4 @@
 pub mod Sums
+pub mod SoundFacts
+pub mod RequestFacts
+pub mod RuleLaws
