@@ -23,7 +23,7 @@ use Rattle.channel.proofs.LineLaws.{Drives, line-by, line-some}
 use Rattle.channel.proofs.RequestLaws.{request-same, request-other}
 use Rattle.sound.specs.Rows.{isPresent}
 use Rattle.sound.specs.Request.{requestVerdict, transferOf}
-use Rattle.sound.specs.Sound.{allowance, isInTime, isBlank, isSound}
+use Rattle.sound.specs.Sound.{allowance, isWithin, isInTime, isBlank, isSound}
 use Rattle.sound.proofs.SoundFacts.{Grant, InTime, Settled, Sound, sound-is}
 use Rattle.sound.proofs.RequestFacts.{Fits, fits-is, level-facts-of, transfer-fits}
 use Rattle.sound.proofs.RuleLaws.{rule-sound}
@@ -95,7 +95,7 @@ module _ (setup : Setup) (ch : Channel) (p : Order) (shaped : Shaped ch) (ok : A
 
   in-time : (o t : ℕ) → ch .phase ≡ Granted o → InTime setup ch o t
       → isInTime setup o (requestOf (withRequest ch (p .level) (requestIn p)) o) (ch .clock) t ≡ true
-  unfolding isInTime
+  unfolding isInTime isWithin
   in-time o t e i =
       by-test (eqb o (p .level))
       (λ b.

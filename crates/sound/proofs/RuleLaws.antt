@@ -19,7 +19,7 @@ use Rattle.channel.specs.Channel.{hasRequest, requestOf, Shaped}
 use Rattle.channel.specs.Line.{isInactive, line, cleared, askedNow, timed, lineRule}
 use Rattle.channel.proofs.LineLaws.{cleared-on, no-marks}
 use Rattle.sound.specs.Request.{transferOf}
-use Rattle.sound.specs.Sound.{allowance, isInTime}
+use Rattle.sound.specs.Sound.{allowance, isWithin, isInTime}
 use Rattle.sound.proofs.SoundFacts.{Grant, InTime, Settled, Sound}
 use Rattle.sound.proofs.RequestFacts.{fits-is, transfer-fits}
 
@@ -77,7 +77,7 @@ module _ (setup : Setup) (framed : isFramed setup ≡ true) (ch : Channel) where
   -- a new asked time is the clock, and a whole transfer fits the allowance
   new-in-time : Settled setup ch → (o t : ℕ) → ch .phase ≡ Granted o → t ≡ ch .clock
       → isInTime setup o (requestOf ch o) (ch .clock) t ≡ true
-  unfolding isInTime
+  unfolding isInTime isWithin
   new-in-time s o t e k =
       let g = s .owner o e in
       by-test (eqb (getD (ch .left) o 0) 0)

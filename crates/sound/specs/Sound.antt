@@ -26,6 +26,10 @@ clockLimit = 4000000000
 unfoldable pub allowance : Setup → ℕ
 allowance setup = 7800
 
+-- what takes so long from the clock on ends within the allowance after t
+unfoldable pub isWithin : ℕ → ℕ → ℕ → ℕ → Bool
+isWithin allowed duration clock t = leb (duration + clock) (t + allowed)
+
 -- "granted to an absent level, or to one other than 15 without a request, or to an inactive one"
 unfoldable pub isGrantSound : LevelRows → Channel → ℕ → Bool
 isGrantSound levels ch owner =
@@ -68,7 +72,7 @@ isClockSound ch = leb (ch .clock) clockLimit
 -- "an asked time .. from which the owner's running or next transfer would end more than 7,800 later; for 15 without a request, an asked time other
 -- than the clock"
 unfoldable pub isInTime : Setup → ℕ → Request → ℕ → ℕ → Bool
-isInTime setup owner q clock t = cond (eqb (q .left) 0) (eqb t clock) (leb (transferOf setup owner q + clock) (t + allowance setup))
+isInTime setup owner q clock t = cond (eqb (q .left) 0) (eqb t clock) (isWithin (allowance setup) (transferOf setup owner q) clock t)
 
 -- "while granted, an asked time without an active line ..; an asked time later than the clock, or .."
 unfoldable pub isAskedAt : Setup → Channel → Bool → ℕ → ℕ → Bool

@@ -16,7 +16,7 @@ use refusal::Verdict;
 ghost use mathlib.Core.Path.{_≡_};
 ghost use Rattle.sound.specs.Rows.{isPresent, levelOf, slaveOf, hasBurst, isFair, hasLinger};
 ghost use Rattle.sound.specs.Request.{isInRange, requestVerdict, transferOf};
-ghost use Rattle.sound.specs.Sound.{isBlank, isGrantSound, isOwnerSound, isRequestSound, areRequestsSound, isMarkSound, areMarksSound, isInTime, isAskedAt, isAskedSound, isSound};
+ghost use Rattle.sound.specs.Sound.{allowance, isWithin, isBlank, isGrantSound, isOwnerSound, isRequestSound, areRequestsSound, isMarkSound, areMarksSound, isInTime, isAskedAt, isAskedSound, isSound};
 
 // The level is in the set-up.
 pub fn is_present(levels: LevelRows, level: u32) -> bool
@@ -199,6 +199,24 @@ fn are_marks_sound(levels: LevelRows, channel: Channel, active: bool) -> bool
     true
 }
 
+// How long a preempted owner may still hold the channel.
+pub fn allowance_of(setup: Setup) -> u32
+    ensures { λ r. ⌜ r ≡ allowance setup ⌝ }
+{
+    7800
+}
+
+// What takes so long from the clock on ends within the allowance after `t`. No sum here can wrap.
+pub fn is_within(allowed: u32, duration: u64, clock: u32, t: u32) -> bool
+    ensures { λ r. ⌜ r ≡ isWithin allowed duration clock t ⌝ }
+{
+    let latest = t as u64 + allowed as u64;
+    if latest < clock as u64 {
+        return false;
+    }
+    duration <= latest - clock as u64
+}
+
 // Asked at `t`, the owner's running or next transfer ends within the allowance; without a request `t` is the clock.
 fn is_in_time(setup: Setup, owner: u32, request: Request, clock: u32, t: u32) -> bool
     ensures { λ r. ⌜ r ≡ isInTime setup owner request clock t ⌝ }
@@ -206,11 +224,7 @@ fn is_in_time(setup: Setup, owner: u32, request: Request, clock: u32, t: u32) ->
     if request.left == 0 {
         return t == clock;
     }
-    let latest = t as u64 + 7800;
-    if latest < clock as u64 {
-        return false;
-    }
-    transfer_of(setup, owner, request) <= latest - clock as u64
+    is_within(allowance_of(setup), transfer_of(setup, owner, request), clock, t)
 }
 
 // An asked time of an owner: the line is active, it is not later than the clock, and the owner is in time.
