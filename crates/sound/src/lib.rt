@@ -14,7 +14,7 @@ use frame::SlaveRows;
 use refusal::Refusal;
 use refusal::Verdict;
 ghost use mathlib.Core.Path.{_≡_};
-ghost use Rattle.sound.specs.Rows.{isPresent, levelOf, slaveOf, hasBurst, isFair, hasLinger};
+ghost use Rattle.sound.specs.Rows.{isPresent, levelOf, slaveOf, startOf, hasBurst, isFair, hasLinger};
 ghost use Rattle.sound.specs.Request.{isInRange, requestVerdict, transferOf};
 ghost use Rattle.sound.specs.Sound.{allowance, isWithin, isBlank, isGrantSound, isOwnerSound, isRequestSound, areRequestsSound, isMarkSound, areMarksSound, isInTime, isAskedAt, isAskedSound, isSound};
 
@@ -58,6 +58,17 @@ pub fn slave_of(slaves: SlaveRows, request: Request) -> SlaveRow
             time: 0,
         },
         FoundSlave::Row(row, _) => row,
+    }
+}
+
+// Where the bytes of a request's slave row start in the slave store, or 0.
+pub fn start_of(slaves: SlaveRows, request: Request) -> usize
+    ensures { λ r. ⌜ r ≡ startOf slaves request ⌝ }
+{
+    let found = frame::slave_row(slaves, request.space, request.address, request.left);
+    match found {
+        FoundSlave::Missing => 0,
+        FoundSlave::Row(_, start) => start,
     }
 }
 

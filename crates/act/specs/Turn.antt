@@ -1,0 +1,49 @@
+-- Document 01, "One step": the grant, the release without a request, and the idle step.
+use Prim.Native.Nat.{ℕ, _+_, _-_}
+use Rattle.channel.specs.declared.Phase.the-variants.{Granted}
+use Rattle.channel.specs.declared.Asked.{Asked}
+use Rattle.channel.specs.declared.Asked.the-variants.{Never, At}
+use Rattle.channel.specs.declared.Channel.{Channel}
+use Rattle.channel.specs.Line.{lineRule}
+use Rattle.act.specs.declared.Hold.{Hold}
+use Rattle.act.specs.declared.Hold.the-variants.{Unasked, After}
+use Rattle.act.specs.declared.Entry.the-variants.{Idle, Grant, Release}
+use Rattle.act.specs.declared.Turned.{Turned}
+use Rattle.act.specs.Cycle.{freed}
+
+-- "The clock grows by 100 (002, T44)."
+unfoldable pub arbitrationTime : Channel → ℕ
+arbitrationTime ch = 100
+
+-- "The clock grows by 100 (002, T44). The winner is the owner, with no asked time until the line rule sets one."
+unfoldable pub granted : Channel → ℕ → Channel
+granted ch winner =
+    record {
+      phase = Granted winner;
+      asked = Never;
+      clock = ch .clock + arbitrationTime ch;
+      inactive = ch .inactive;
+      direction = ch .direction;
+      space = ch .space;
+      address = ch .address;
+      left = ch .left;
+      offset = ch .offset;
+    }
+
+unfoldable pub grantTurn : Channel → ℕ → Turned
+grantTurn ch winner =
+    record { channel = lineRule (granted ch winner); entry = Grant (ch .clock + arbitrationTime ch) winner }
+
+-- "the clock less the asked time or that there was none"
+abbrev pub holdOf : Asked → ℕ → Hold
+holdOf Never clock = Unasked
+holdOf (At t) clock = After (clock - t)
+
+-- "Active line: release, no time passes, 15 is not marked inactive."
+unfoldable pub leaveTurn : Channel → ℕ → Turned
+leaveTurn ch owner =
+    record { channel = lineRule (freed ch (ch .inactive)); entry = Release (ch .clock) owner (holdOf (ch .asked) (ch .clock)) }
+
+-- "Otherwise idle: nothing changes."
+abbrev pub idleTurn : Channel → Turned
+idleTurn ch = record { channel = ch; entry = Idle (ch .clock) }

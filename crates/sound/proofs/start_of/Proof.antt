@@ -1,0 +1,26 @@
+use Rattle.sound.specs.Rows.{startOf, startOr}
+use borrow.Author.Needs.{needs}
+use mathlib.Core.Path.{sym, ap, _∙_}
+use Rattle.sound.proofs.start_of.Statement.{statement}
+use Rattle.sound.proofs.start_of.Tie as tie
+
+slave-row-requires : tie.Need-slave-row-requires
+slave-row-requires c κs = search needs
+
+enum-told : tie.Need-enum-told
+enum-told c = search needs
+
+enum-known-found : tie.Need-enum-known-found
+enum-known-found c = search needs
+
+returns : tie.Need-returns
+unfolding startOf
+returns c = ap startOr (sym (c .enum-told .given .1) ∙ c .before .before .slave-row .ensures .0)
+
+returns-2 : tie.Need-returns-2
+unfolding startOf
+returns-2 c = ap startOr (sym (c .before .found .given .1) ∙ c .before .before .before .slave-row .ensures .0)
+
+pub start-of-spec : {M : Type 1} → statement M
+start-of-spec =
+    tie.close (tie.spec slave-row-requires enum-told enum-known-found returns returns-2)

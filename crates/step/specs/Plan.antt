@@ -1,0 +1,50 @@
+-- Document 01, "One step": what a step is going to do. The bytes of the stores have no part in it.
+use Prim.Native.Nat.{ℕ, _+_}
+use mathlib.Core.Bool.{Bool, cond, not, _&&_}
+use lib.Dec.{eqb, ltb}
+use Rattle.refusal.specs.declared.Refusal.the-variants.{Unsound, StoreLength, ClockFull}
+use Rattle.frame.specs.Frame.{isFramed}
+use Rattle.frame.specs.Find.{slaveStoreLength}
+use Rattle.frame.specs.declared.Setup.{Setup}
+use Rattle.channel.specs.declared.Phase.{Phase}
+use Rattle.channel.specs.declared.Phase.the-variants.{Arbitrating, Granted}
+use Rattle.channel.specs.declared.Channel.{Channel}
+use Rattle.channel.specs.declared.Request.{Request}
+use Rattle.channel.specs.Channel.{requestOf}
+use Rattle.channel.specs.Line.{line, winner}
+use Rattle.sound.specs.Rows.{slaveOf}
+use Rattle.sound.specs.Sound.{clockLimit, isSound}
+use Rattle.act.specs.Turn.{arbitrationTime}
+use Rattle.step.specs.declared.Plan.{Plan}
+use Rattle.step.specs.declared.Plan.the-variants.{Idle, Refused, Grant, Leave, Cycle}
+
+-- "6: step: the clock would pass 4,000,000,000"
+abbrev pub timed : Channel → ℕ → Plan → Plan
+timed ch time plan = cond (ltb clockLimit (ch .clock + time)) (Refused ClockFull) plan
+
+-- "Granted, owner without a request (only 15). Active line: release .. Otherwise idle"; "Granted, with a request. One cycle runs"
+abbrev pub requestPlan : Setup → Channel → ℕ → Request → Plan
+requestPlan setup ch owner q =
+    cond (eqb (q .left) 0) (cond (line ch) (Leave owner) Idle) (timed ch (slaveOf (setup .slaves) q .time) (Cycle owner))
+
+unfoldable pub ownerPlan : Setup → Channel → ℕ → Plan
+ownerPlan setup ch owner = requestPlan setup ch owner (requestOf ch owner)
+
+-- "Arbitrating. The lowest-numbered level with an open request and no inactive mark wins .. The winner is the owner"
+abbrev pub phasePlan : Setup → Channel → Phase → Plan
+phasePlan setup ch Arbitrating = timed ch (arbitrationTime ch) (Grant (winner (ch .left) (ch .inactive)))
+phasePlan setup ch (Granted owner) = ownerPlan setup ch owner
+
+unfoldable pub actPlan : Setup → Channel → Plan
+actPlan setup ch = phasePlan setup ch (ch .phase)
+
+-- "9 first, then 8": "8: step, run: a lent store's length differs from the set-up"
+unfoldable pub planOf : Setup → Channel → ℕ → ℕ → Plan
+planOf setup ch slave master =
+    cond
+    (not (isFramed setup && isSound setup ch))
+    (Refused Unsound)
+    (cond
+    (not (eqb slave (slaveStoreLength (setup .slaves)) && eqb master (setup .master)))
+    (Refused StoreLength)
+    (actPlan setup ch))

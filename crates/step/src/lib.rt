@@ -1,0 +1,181 @@
+// One step of the channel (document 01, "One step"): the plan, which decides without a look at the bytes, and the step,
+// which carries it out on the channel and on both stores and gives the log entry.
+use act::CycleEntry;
+use act::Entry;
+use act::Path;
+use act::Turned;
+use channel::Asked;
+use channel::Channel;
+use channel::Phase;
+use channel::Request;
+use frame::Setup;
+use refusal::Refusal;
+ghost use mathlib.Core.Path.{_≡_};
+ghost use Prim.Native.Nat.{_+_, _≤_};
+ghost use lib.ListN.{length};
+ghost use Rattle.channel.specs.Channel.{withRequest};
+ghost use Rattle.act.specs.Cycle.{restAfter, clocked, cycleTurn};
+ghost use Rattle.act.specs.Turn.{arbitrationTime, granted, grantTurn};
+ghost use Rattle.step.specs.Plan.{ownerPlan, actPlan, planOf};
+
+// What a step is going to do.
+pub enum Plan {
+    Idle,
+    Refused(Refusal),
+    Grant(u8),
+    Leave(u8),
+    Cycle(u8),
+}
+
+pub enum StepAnswer {
+    Done(Entry),
+    Refused(Refusal),
+}
+
+// The channel after a step, and its entry or why it was refused.
+pub struct Stepped {
+    pub channel: Channel,
+    pub answer: StepAnswer,
+}
+
+// The plan while a level owns the channel: a cycle of its request, or without one a release or nothing.
+fn owner_plan(setup: Setup, channel: Channel, owner: u8) -> Plan
+    ensures { λ r. ⌜ r ≡ ownerPlan setup channel owner ⌝ }
+{
+    let request = channel::request_of(channel, owner as usize);
+    if request.left == 0 {
+        let phase = channel.phase;
+        if channel::line_active(&channel.left, &channel.inactive, phase) {
+            return Plan::Leave(owner);
+        }
+        return Plan::Idle;
+    }
+    let slaves = setup.slaves;
+    let slave = sound::slave_of(slaves, request);
+    if 4000000000 < channel.clock as u64 + slave.time as u64 {
+        return Plan::Refused(Refusal::ClockFull);
+    }
+    Plan::Cycle(owner)
+}
+
+// The plan of a step that nothing but the clock can refuse.
+fn act_plan(setup: Setup, channel: Channel) -> Plan
+    ensures { λ r. ⌜ r ≡ actPlan setup channel ⌝ }
+{
+    let phase = channel.phase;
+    match phase {
+        Phase::Arbitrating => {
+            if 4000000000 < channel.clock as u64 + act::arbitration_time(channel) as u64 {
+                return Plan::Refused(Refusal::ClockFull);
+            }
+            Plan::Grant(channel::winner_of(&channel.left, &channel.inactive))
+        }
+        Phase::Granted(owner) => owner_plan(setup, channel, owner),
+    }
+}
+
+// The plan of a step over stores of these lengths: refusals 9, 8 and 6, in that order, or what the step does.
+pub fn plan_of(setup: Setup, channel: Channel, slave: usize, master: usize) -> Plan
+    ensures { λ r. ⌜ r ≡ planOf setup channel slave master ⌝ }
+{
+    if !(frame::is_framed(setup) & sound::is_sound(setup, channel)) {
+        return Plan::Refused(Refusal::Unsound);
+    }
+    let slaves = setup.slaves;
+    if !((slave == frame::slave_store_length(slaves)) & (master == setup.master as usize)) {
+        return Plan::Refused(Refusal::StoreLength);
+    }
+    act_plan(setup, channel)
+}
+
+// What is left of a request after one cycle.
+fn rest_after(path: Path, request: Request) -> Request
+    requires { ⌜ request .address + request .left ≤ 16777216 ⌝ }
+    requires { ⌜ request .offset + request .left ≤ 65536 ⌝ }
+    ensures { λ r. ⌜ r ≡ restAfter path request ⌝ }
+{
+    let bytes = cycle::cycle_length(cycle::narrow(path.width, path.port), request.address, request.left);
+    Request {
+        direction: request.direction,
+        space: request.space,
+        address: request.address + bytes,
+        left: request.left - bytes,
+        offset: request.offset + bytes,
+    }
+}
+
+// The channel with the owner's request moved on by one cycle, at the clock after it.
+fn move_on(path: Path, channel: Channel, owner: u8, slot: Request) -> Channel
+    requires { ⌜ channel .clock + path .time ≤ 4000000000 ⌝ }
+    ensures { λ r. ⌜ r ≡ withRequest (clocked channel (channel .clock + path .time)) owner slot ⌝ }
+{
+    let mut next = channel;
+    next.clock = channel.clock + path.time;
+    channel::put_request(next, owner as usize, slot)
+}
+
+// One cycle of the owner's request, and the line rule.
+fn turn_cycle(path: Path, channel: Channel, owner: u8, request: Request) -> Turned
+    requires { ⌜ channel .clock + path .time ≤ 4000000000 ⌝ }
+    requires { ⌜ request .address + request .left ≤ 16777216 ⌝ }
+    requires { ⌜ request .offset + request .left ≤ 65536 ⌝ }
+    ensures { λ r. ⌜ r ≡ cycleTurn path channel owner request ⌝ }
+{
+    let asked = channel.asked;
+    let clock = channel.clock + path.time;
+    let rest = rest_after(path, request);
+    let ending = act::ending_of(path, asked, clock, rest);
+    let next = move_on(path, channel, owner, act::slot_after(rest));
+    let after = channel::line_rule(act::ended_by(ending, next, owner as usize));
+    let entry = CycleEntry {
+        clock: clock,
+        level: owner,
+        address: request.address,
+        bytes: cycle::cycle_length(cycle::narrow(path.width, path.port), request.address, request.left),
+        direction: request.direction,
+        master: cycle::master_lane(path.width, request.address),
+        slave: cycle::slave_lane(path.port, request.address),
+        ending: ending,
+    };
+    Turned {
+        channel: after,
+        entry: Entry::Cycle(entry),
+    }
+}
+
+// The winner is the owner, with no asked time until the line rule sets one.
+fn grant_to(channel: Channel, winner: u8) -> Channel
+    requires { ⌜ channel .clock + arbitrationTime channel ≤ 4000000000 ⌝ }
+    ensures { λ r. ⌜ r ≡ granted channel winner ⌝ }
+{
+    let inactive = channel.inactive;
+    let direction = channel.direction;
+    let space = channel.space;
+    let address = channel.address;
+    let left = channel.left;
+    let offset = channel.offset;
+    Channel {
+        phase: Phase::Granted(winner),
+        asked: Asked::Never,
+        clock: channel.clock + act::arbitration_time(channel),
+        inactive: inactive,
+        direction: direction,
+        space: space,
+        address: address,
+        left: left,
+        offset: offset,
+    }
+}
+
+// A grant, where the clock has room for it.
+fn turn_grant(channel: Channel, winner: u8) -> Turned
+    requires { ⌜ channel .clock + arbitrationTime channel ≤ 4000000000 ⌝ }
+    ensures { λ r. ⌜ r ≡ grantTurn channel winner ⌝ }
+{
+    let next = channel::line_rule(grant_to(channel, winner));
+    let clock = channel.clock + act::arbitration_time(channel);
+    Turned {
+        channel: next,
+        entry: Entry::Grant(clock, winner),
+    }
+}
