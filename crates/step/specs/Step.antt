@@ -1,15 +1,19 @@
 -- Document 01, "One step": the step itself, on the channel and on both stores, and its entry.
-use Prim.Native.Nat.{ℕ, _+_, _-_}
-use mathlib.Core.Bool.{Bool, cond}
+use Prim.Native.Nat.{ℕ, _+_, _-_, _≤_}
+use mathlib.Core.Path.{_≡_}
+use mathlib.Core.Bool.{true, cond}
 use mathlib.Core.List.{List}
 use lib.ListN.{length, drop}
 use lib.Seq.{paste}
 use lib.Dec.{eqb}
 use Rattle.refusal.specs.declared.Refusal.{Refusal}
+use Rattle.frame.specs.Frame.{isFramed}
+use Rattle.frame.specs.Find.{slaveStoreLength}
 use Rattle.frame.specs.declared.Setup.{Setup}
 use Rattle.channel.specs.declared.Channel.{Channel}
 use Rattle.channel.specs.declared.Request.{Request}
 use Rattle.channel.specs.Channel.{requestOf}
+use Rattle.sound.specs.Sound.{clockLimit, isSound}
 use Rattle.act.specs.declared.Path.{Path}
 use Rattle.step.specs.declared.Plan.{Plan}
 use Rattle.step.specs.declared.Plan.the-variants.{Idle, Refused, Grant, Leave, Cycle}
@@ -20,21 +24,16 @@ use Rattle.act.specs.Cycle.{pathOf, cycleBytes, cycleTurn}
 use Rattle.act.specs.Turn.{grantTurn, leaveTurn, idleTurn}
 use Rattle.step.specs.Plan.{planOf}
 
--- the turn of a plan that is not refused
-abbrev pub turnOf : Setup → Channel → Plan → Turned
-turnOf setup ch Idle = idleTurn ch
-turnOf setup ch (Refused why) = idleTurn ch
-turnOf setup ch (Grant winner) = grantTurn ch winner
-turnOf setup ch (Leave owner) = leaveTurn ch owner
-turnOf setup ch (Cycle owner) = cycleTurn (pathOf setup owner (requestOf ch owner)) ch owner (requestOf ch owner)
+abbrev pub doneBy : Turned → Stepped
+doneBy turned = record { channel = turned .channel; answer = Done (turned .entry) }
 
 -- "A refused call gives back the channel it got"; a refused step "has no entry"
 abbrev pub steppedBy : Setup → Channel → Plan → Stepped
 steppedBy setup ch (Refused why) = record { channel = ch; answer = NotDone why }
-steppedBy setup ch Idle = record { channel = turnOf setup ch Idle .channel; answer = Done (turnOf setup ch Idle .entry) }
-steppedBy setup ch (Grant w) = record { channel = turnOf setup ch (Grant w) .channel; answer = Done (turnOf setup ch (Grant w) .entry) }
-steppedBy setup ch (Leave o) = record { channel = turnOf setup ch (Leave o) .channel; answer = Done (turnOf setup ch (Leave o) .entry) }
-steppedBy setup ch (Cycle o) = record { channel = turnOf setup ch (Cycle o) .channel; answer = Done (turnOf setup ch (Cycle o) .entry) }
+steppedBy setup ch Idle = doneBy (idleTurn ch)
+steppedBy setup ch (Grant winner) = doneBy (grantTurn ch winner)
+steppedBy setup ch (Leave owner) = doneBy (leaveTurn ch owner)
+steppedBy setup ch (Cycle owner) = doneBy (cycleTurn (pathOf setup owner (requestOf ch owner)) ch owner (requestOf ch owner))
 
 unfoldable pub stepOf : Setup → Channel → ℕ → ℕ → Stepped
 stepOf setup ch slave master = steppedBy setup ch (planOf setup ch slave master)
@@ -70,3 +69,20 @@ slaveAfter setup ch slave master = slaveBy setup ch (planOf setup ch (length sla
 
 unfoldable pub masterAfter : Setup → Channel → List ℕ → List ℕ → List ℕ
 masterAfter setup ch slave master = masterBy setup ch (planOf setup ch (length slave) (length master)) slave master
+
+-- what a step that is not refused by 9 or 8 may rely on: the set-up keeps the frame, the channel is sound, the stores have the set-up's lengths
+pub record Ready (setup : Setup) (ch : Channel) (s m : ℕ) : Type 0 where
+  pub framed : isFramed setup ≡ true
+  pub sound : isSound setup ch ≡ true
+  pub slave : s ≡ slaveStoreLength (setup .slaves)
+  pub master : m ≡ setup .master
+
+-- what one cycle relies on: room on the clock, in the address space and in both stores
+pub record Able (path : Path) (ch : Channel) (q : Request) (s m : ℕ) : Type 0 where
+  pub clock : ch .clock + path .time ≤ clockLimit
+  pub end : q .address + q .left ≤ 16777216
+  pub offset : q .offset + q .left ≤ 65536
+  pub begins : path .base ≤ q .address
+  pub start : path .start ≤ 65536
+  pub slave : path .start + (q .address - path .base) + q .left ≤ s
+  pub master : q .offset + q .left ≤ m

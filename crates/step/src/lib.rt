@@ -11,12 +11,14 @@ use channel::Request;
 use frame::Setup;
 use refusal::Refusal;
 ghost use mathlib.Core.Path.{_≡_};
-ghost use Prim.Native.Nat.{_+_, _≤_};
-ghost use lib.ListN.{length};
-ghost use Rattle.channel.specs.Channel.{withRequest};
-ghost use Rattle.act.specs.Cycle.{restAfter, clocked, cycleTurn};
+ghost use Prim.Native.Nat.{_+_, _-_, _≤_};
+ghost use lib.ListN.{length, drop};
+ghost use lib.Seq.{paste};
+ghost use Rattle.channel.specs.Channel.{requestOf, withRequest};
+ghost use Rattle.act.specs.Cycle.{pathOf, restAfter, clocked, cycleTurn};
 ghost use Rattle.act.specs.Turn.{arbitrationTime, granted, grantTurn};
 ghost use Rattle.step.specs.Plan.{ownerPlan, actPlan, planOf};
+ghost use Rattle.step.specs.Step.{Ready, Able, doneBy, steppedBy, movedSlave, movedMaster, slaveBy, masterBy};
 
 // What a step is going to do.
 pub enum Plan {
@@ -177,5 +179,85 @@ fn turn_grant(channel: Channel, winner: u8) -> Turned
     Turned {
         channel: next,
         entry: Entry::Grant(clock, winner),
+    }
+}
+
+// Byte i of the source from `from` on goes to byte i of the target from `to` on, for i below n; the rest stays.
+fn move_bytes(source: &[u8], from: usize, target: &mut [u8], to: usize, n: usize)
+    requires { ⌜ from + n ≤ length (now source) ⌝ }
+    requires { ⌜ to + n ≤ length (now target) ⌝ }
+    ensures { λ r. ⌜ now (target .exit) ≡ paste (now (target .entry)) to (drop from (now (source .entry))) n ⌝ }
+{
+    let mut i: usize = 0;
+    while i < n {
+        target[to + i] = source[from + i];
+        i += 1;
+    }
+}
+
+// The bytes of one cycle: direction 0 goes from the slave to the master, 1 the other way.
+fn carry(path: Path, request: Request, slave: &mut [u8], master: &mut [u8])
+    requires { ⌜ path .base ≤ request .address ⌝ }
+    requires { ⌜ path .start ≤ 65536 ⌝ }
+    requires { ⌜ path .start + (request .address - path .base) + request .left ≤ length (now slave) ⌝ }
+    requires { ⌜ request .offset + request .left ≤ length (now master) ⌝ }
+    ensures { λ r. ⌜ now (slave .exit) ≡ movedSlave path request (now (slave .entry)) (now (master .entry)) ⌝ }
+    ensures { λ r. ⌜ now (master .exit) ≡ movedMaster path request (now (slave .entry)) (now (master .entry)) ⌝ }
+{
+    let bytes = cycle::cycle_length(cycle::narrow(path.width, path.port), request.address, request.left) as usize;
+    let place = path.start + (request.address - path.base) as usize;
+    let offset = request.offset as usize;
+    if request.direction == 0 {
+        move_bytes(slave, place, master, offset, bytes);
+    } else {
+        move_bytes(master, offset, slave, place, bytes);
+    }
+}
+
+// A step that was taken, as an answer.
+fn finished(turned: Turned) -> Stepped
+    ensures { λ r. ⌜ r ≡ doneBy turned ⌝ }
+{
+    let channel = turned.channel;
+    let entry = turned.entry;
+    Stepped {
+        channel: channel,
+        answer: StepAnswer::Done(entry),
+    }
+}
+
+// One cycle of the owner's request: the bytes are moved, the request goes on, and the line rule follows.
+fn cycle_step(setup: Setup, channel: Channel, owner: u8, slave: &mut [u8], master: &mut [u8]) -> Stepped
+    requires { ⌜ Able (pathOf setup owner (requestOf channel owner)) channel (requestOf channel owner) (length (now slave)) (length (now master)) ⌝ }
+    ensures { λ r. ⌜ r ≡ steppedBy setup channel (Plan.Cycle owner) ⌝ }
+    ensures { λ r. ⌜ now (slave .exit) ≡ slaveBy setup channel (Plan.Cycle owner) (now (slave .entry)) (now (master .entry)) ⌝ }
+    ensures { λ r. ⌜ now (master .exit) ≡ masterBy setup channel (Plan.Cycle owner) (now (slave .entry)) (now (master .entry)) ⌝ }
+{
+    let request = channel::request_of(channel, owner as usize);
+    let path = act::path_of(setup, owner as u32, request);
+    carry(path, request, slave, master);
+    finished(turn_cycle(path, channel, owner, request))
+}
+
+// The step of a sound channel over stores of the right lengths.
+fn advance(setup: Setup, channel: Channel, slave: &mut [u8], master: &mut [u8]) -> Stepped
+    requires { ⌜ Ready setup channel (length (now slave)) (length (now master)) ⌝ }
+    ensures { λ r. ⌜ r ≡ steppedBy setup channel (actPlan setup channel) ⌝ }
+    ensures { λ r. ⌜ now (slave .exit) ≡ slaveBy setup channel (actPlan setup channel) (now (slave .entry)) (now (master .entry)) ⌝ }
+    ensures { λ r. ⌜ now (master .exit) ≡ masterBy setup channel (actPlan setup channel) (now (slave .entry)) (now (master .entry)) ⌝ }
+{
+    let plan = act_plan(setup, channel);
+    match plan {
+        Plan::Idle => Stepped {
+            channel: channel,
+            answer: StepAnswer::Done(Entry::Idle(channel.clock)),
+        },
+        Plan::Refused(why) => Stepped {
+            channel: channel,
+            answer: StepAnswer::Refused(why),
+        },
+        Plan::Grant(winner) => finished(turn_grant(channel, winner)),
+        Plan::Leave(owner) => finished(act::turn_leave(channel, owner)),
+        Plan::Cycle(owner) => cycle_step(setup, channel, owner, slave, master),
     }
 }

@@ -1,0 +1,90 @@
+-- What each plan says of the channel, and that a planned cycle has all the room that it needs.
+use Prim.Native.Nat.{ℕ, _+_, _-_, _≤_, _<_}
+use mathlib.Core.Path.{_≡_, refl, sym, ap, _∙_}
+use mathlib.Core.Bool.{Bool, true, false, cond, not}
+use native.Mathlib.Nat.{le-trans}
+use native.Mathlib.Omega.{arith}
+use borrow.Author.Tests.{ltb-false, eqb-true, eqb-false}
+use lib.Dec.{eqb, ltb}
+use lib.ListN.{getD, length}
+use Rattle.refusal.specs.declared.Refusal.{Refusal}
+use Rattle.refusal.specs.declared.Refusal.the-variants.{ClockFull}
+use Rattle.basics.proofs.Tests.{by-test}
+use Rattle.frame.specs.Frame.{isFramed}
+use Rattle.frame.specs.Find.{slaveStoreLength}
+use Rattle.frame.specs.declared.Setup.{Setup}
+use Rattle.frame.proofs.FrameLaws.{framed-slaves, framed-master, limit-most}
+use Rattle.frame.proofs.SlaveLaws.{store-most}
+use Rattle.channel.specs.declared.Phase.{Phase}
+use Rattle.channel.specs.declared.Phase.the-variants.{Arbitrating, Granted}
+use Rattle.channel.specs.declared.Channel.{Channel}
+use Rattle.channel.specs.Channel.{hasRequest, requestOf}
+use Rattle.channel.specs.Line.{line, winner}
+use Rattle.sound.specs.Rows.{slaveOf, startOf}
+use Rattle.sound.specs.Sound.{clockLimit, isSound}
+use Rattle.sound.proofs.SoundFacts.{sound-is}
+use Rattle.sound.proofs.RequestFacts.{Fits, fits-is, slave-facts-of}
+use Rattle.act.specs.Cycle.{pathOf}
+use Rattle.act.specs.Turn.{arbitrationTime}
+use Rattle.step.specs.declared.Plan.{Plan}
+use Rattle.step.specs.declared.Plan.the-variants.{Idle, Refused, Grant, Leave, Cycle}
+use Rattle.step.specs.Plan.{timed, requestPlan, ownerPlan, phasePlan, actPlan}
+use Rattle.step.specs.Step.{Ready, Able}
+
+-- what is known where a plan was made
+abbrev Says : Setup → Channel → Phase → Plan → Type 0
+Says setup ch p Idle = (o : ℕ) × (p ≡ Granted o) × (eqb (getD (ch .left) o 0) 0 ≡ true) × (line ch ≡ false)
+Says setup ch p (Refused why) = why ≡ ClockFull
+Says setup ch p (Grant w) = (p ≡ Arbitrating) × (w ≡ winner (ch .left) (ch .inactive)) × (ch .clock + arbitrationTime ch ≤ clockLimit)
+Says setup ch p (Leave o) = (p ≡ Granted o) × (eqb (getD (ch .left) o 0) 0 ≡ true) × (line ch ≡ true)
+Says setup ch p (Cycle o) =
+    (p ≡ Granted o)
+    × (eqb (getD (ch .left) o 0) 0 ≡ false)
+    × (ch .clock + slaveOf (setup .slaves) (requestOf ch o) .time ≤ clockLimit)
+
+-- a plan that takes time is made only where the clock has room for it
+timed-says : (setup : Setup) (ch : Channel) (p : Phase) (time : ℕ) (plan : Plan) → (ch .clock + time ≤ clockLimit → Says setup ch p plan)
+    → Says setup ch p (timed ch time plan)
+timed-says setup ch p time plan h =
+    by-test (ltb clockLimit (ch .clock + time))
+    (λ t. rw t refl)
+    (λ f. rw f (h (ltb-false clockLimit (ch .clock + time) f)))
+
+owner-says : (setup : Setup) (ch : Channel) (o : ℕ) → Says setup ch (Granted o) (ownerPlan setup ch o)
+unfolding ownerPlan
+owner-says setup ch o =
+    by-test (eqb (getD (ch .left) o 0) 0)
+    (λ z. rw z (by-test (line ch) (λ t. rw t (refl, z, t)) (λ f. rw f (o, refl, z, f))))
+    (λ n. rw n (timed-says setup ch (Granted o) (slaveOf (setup .slaves) (requestOf ch o) .time) (Cycle o) (λ h. (refl, n, h))))
+
+phase-says : (setup : Setup) (ch : Channel) (p : Phase) → Says setup ch p (phasePlan setup ch p)
+phase-says setup ch Arbitrating =
+    timed-says setup ch Arbitrating (arbitrationTime ch) (Grant (winner (ch .left) (ch .inactive))) (λ h. (refl, refl, h))
+phase-says setup ch (Granted o) = owner-says setup ch o
+
+pub says : (setup : Setup) (ch : Channel) (plan : Plan) → actPlan setup ch ≡ plan → Says setup ch (ch .phase) plan
+unfolding actPlan
+says setup ch plan e = rw e at (phase-says setup ch (ch .phase))
+
+-- a cycle that is planned on a sound channel over stores of the right lengths has room in the row, in both stores and on the clock
+pub able : (setup : Setup) (ch : Channel) (o slave master : ℕ) → Ready setup ch slave master → actPlan setup ch ≡ Cycle o
+    → Able (pathOf setup o (requestOf ch o)) ch (requestOf ch o) slave master
+unfolding pathOf
+able setup ch o slave master r e =
+    let p = says setup ch (Cycle o) e in
+    let s = sound-is setup ch (r .sound) .settled in
+    let g = s .owner o (p .0) in
+    let q = requestOf ch o in
+    let f = fits-is setup q (s .request o (omega (arith, g .small)) (rw (p .1)) .1) in
+    let found = slave-facts-of setup (r .framed) q f in
+    let m = framed-master setup (r .framed) in
+    let most = store-most (setup .slaves) (framed-slaves setup (r .framed)) in
+    record {
+      clock = p .2;
+      end = omega (arith, found .range .ends, found .facts .end, limit-most (slaveOf (setup .slaves) q .space));
+      offset = omega (arith, f .master, m .1);
+      begins = found .range .begins;
+      start = omega (arith, found .inside, most);
+      slave = omega (arith, found .inside, found .range .begins, found .range .ends, r .slave);
+      master = omega (arith, f .master, r .master);
+    }

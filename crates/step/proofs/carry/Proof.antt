@@ -1,0 +1,81 @@
+use Rattle.step.specs.Step.{movedSlave, movedMaster, placeFor}
+use borrow.Author.Needs.{needs}
+use borrow.Author.Tests.{eq-eqb, ne-eqb}
+use mathlib.Core.Path.{_≡_, refl, sym, ap, _∙_}
+use Rattle.step.proofs.carry.Statement.{statement}
+use Rattle.step.proofs.carry.Tie as tie
+
+narrow-requires : tie.Need-narrow-requires
+narrow-requires c κs = search needs
+
+cycle-length-requires : tie.Need-cycle-length-requires
+cycle-length-requires c κs = search needs
+
+cast-bytes : tie.Need-cast-bytes
+cast-bytes c = search needs
+
+sub-place : tie.Need-sub-place
+sub-place c = search needs
+
+cast-place : tie.Need-cast-place
+cast-place c = search needs
+
+add-place : tie.Need-add-place
+add-place c = search needs
+
+cast-offset : tie.Need-cast-offset
+cast-offset c = search needs
+
+move-bytes-requires : tie.Need-move-bytes-requires
+move-bytes-requires c κs = search needs
+
+move-bytes-requires-2 : tie.Need-move-bytes-requires-2
+move-bytes-requires-2 c κs = search needs
+
+same-length : tie.Need-same-length
+same-length c = search needs
+
+same-length-2 : tie.Need-same-length-2
+same-length-2 c = search needs
+
+returns : tie.Need-returns
+unfolding movedSlave movedMaster placeFor
+returns c =
+    let e = eq-eqb _ 0 (c .before .before .before .before .before .if1 .taken) in
+    let n = c .before .before .before .before .before .before .before .before .before .before .before .cycle-length .ensures in
+    let w = c .before .before .before .before .before .before .before .before .before .before .before .before .narrow .ensures in
+    (rw e, rw (e, ← w, ← n) (c .before .before .move-bytes .ensures))
+
+same-length-3 : tie.Need-same-length-3
+same-length-3 c = search needs
+
+same-length-4 : tie.Need-same-length-4
+same-length-4 c = search needs
+
+returns-2 : tie.Need-returns-2
+unfolding movedSlave movedMaster placeFor
+returns-2 c =
+    let e = ne-eqb _ 0 (c .before .before .before .before .before .if1 .left) in
+    let n = c .before .before .before .before .before .before .before .before .before .before .before .cycle-length .ensures in
+    let w = c .before .before .before .before .before .before .before .before .before .before .before .before .narrow .ensures in
+    (rw (e, ← w, ← n) (c .before .before .move-bytes2 .ensures), rw e)
+
+pub carry-spec : {M : Type 1} → statement M
+carry-spec =
+    tie.close
+    (tie.spec
+    narrow-requires
+    cycle-length-requires
+    cast-bytes
+    sub-place
+    cast-place
+    add-place
+    cast-offset
+    move-bytes-requires
+    move-bytes-requires-2
+    same-length
+    same-length-2
+    returns
+    same-length-3
+    same-length-4
+    returns-2)
