@@ -1,0 +1,450 @@
+-- Each act takes a sound channel to a settled one, and the line rule makes it sound: a step keeps soundness.
+use Prim.Native.Nat.{ℕ, _+_, _-_, _*_, _≤_, _<_}
+use mathlib.Core.Path.{_≡_, refl, sym, ap, ap₂, _∙_}
+use mathlib.Core.Bool.{Bool, true, false, not, and-false, false≢true}
+use mathlib.Core.Logic.{_⊎_, inl, inr, ⊎-elim}
+use mathlib.Core.List.{List}
+use native.Mathlib.Omega.{arith}
+use borrow.Author.Tests.{leb-true, le-leb, eqb-true, eqb-false, eq-eqb, ne-eqb, not-true, not-false}
+use lib.Dec.{eqb, leb}
+use lib.ListN.{getD, set, length, length-set}
+use lib.Seq.{getD-set-other}
+use Rattle.basics.specs.Scan.{anyBelow}
+use Rattle.basics.proofs.ScanLaws.{any-ext}
+use Rattle.basics.proofs.Tests.{by-test, or-none, or-left, or-right}
+use Rattle.cycle.specs.Cycle.{narrower, cycleLength, isTransferEnd, transferTime}
+use Rattle.cycle.proofs.CountLaws.{length-some}
+use Rattle.cycle.proofs.Widths.{port-some, width-some}
+use Rattle.cycle.proofs.TransferLaws.{time-left}
+use Rattle.frame.specs.Frame.{isFramed}
+use Rattle.frame.specs.declared.Setup.{Setup}
+use Rattle.frame.specs.declared.FoundSlave.the-variants.{Row as Slave}
+use Rattle.frame.specs.Find.{slaveRow}
+use Rattle.refusal.specs.declared.Verdict.the-variants.{Accepted}
+use Rattle.frame.proofs.FrameLaws.{framed-levels, framed-slaves, fifteen-present}
+use Rattle.frame.proofs.SlaveLaws.{found-part}
+use Rattle.channel.specs.declared.Phase.{Phase}
+use Rattle.channel.specs.declared.Phase.the-variants.{Arbitrating, Granted}
+use Rattle.channel.specs.declared.Asked.{Asked}
+use Rattle.channel.specs.declared.Asked.the-variants.{Never, At}
+use Rattle.channel.specs.declared.Channel.{Channel}
+use Rattle.channel.specs.declared.Request.{Request}
+use Rattle.channel.specs.Channel.{ownerOf, hasRequest, requestOf, withRequest, Shaped}
+use Rattle.channel.specs.Line.{isInactive, waits, drives, lineActive, line, lineRule, winner}
+use Rattle.channel.proofs.LineLaws.{waits-is, winner-is, none-waits}
+use Rattle.channel.proofs.RequestLaws.{request-same, request-other, with-shaped, rule-shaped}
+use Rattle.sound.specs.Rows.{isPresent, levelOf, slaveOr, startOr, slaveOf, startOf, hasBurst, isFair, hasLinger}
+use Rattle.sound.specs.Request.{requestVerdict, transferOf}
+use Rattle.sound.specs.Sound.{clockLimit, allowance, isWithin, isBlank, isInTime}
+use Rattle.sound.proofs.SoundFacts.{Grant as MayOwn, InTime, Settled, Sound}
+use Rattle.sound.proofs.RuleLaws.{rule-sound}
+use Rattle.sound.proofs.RequestFacts.{Fits, fits-is, fits-by, level-facts-of, slave-facts-of}
+use Rattle.act.specs.declared.Path.{Path}
+use Rattle.act.specs.declared.Hold.{Hold}
+use Rattle.act.specs.declared.Ending.{Ending}
+use Rattle.act.specs.declared.Ending.the-variants.{Kept, Released, Marked}
+use Rattle.act.specs.Cycle.{
+  pathOf, cycleBytes, restAfter, noRequest, slotAfter, lateFor, isLate, isLeaving, releasedBy, endingOf, clocked, freed, markedAt, endedBy, movedOn, cycleTurn,
+}
+use Rattle.act.specs.Turn.{arbitrationTime, granted, grantTurn, leaveTurn}
+use Rattle.step.specs.declared.Plan.{Plan}
+use Rattle.step.specs.declared.Plan.the-variants.{Idle, Refused, Grant, Leave, Cycle}
+use Rattle.step.specs.Plan.{actPlan}
+use Rattle.step.specs.Step.{steppedBy}
+use Rattle.step.proofs.PlanLaws.{says}
+
+-- grant: the winner waits, or nobody does and there are no marks at all, so that 15 is unmarked too
+module _ (setup : Setup) (framed : isFramed setup ≡ true) (ch : Channel) (s : Sound setup ch) where
+  winner-grant : ch .phase ≡ Arbitrating → MayOwn (setup .levels) ch (winner (ch .left) (ch .inactive))
+  unfolding isPresent
+  winner-grant e =
+      ⊎-elim
+      (λ w.
+      let f = waits-is (ch .left) (ch .inactive) 0 (winner (ch .left) (ch .inactive)) (w .0) in
+      record {
+        small = omega (arith, w .1);
+        present = s .settled .request (winner (ch .left) (ch .inactive)) (w .1) (f .0) .0;
+        asking = inr (f .0);
+        active = f .1;
+      })
+      (λ n.
+      let q = n .0 in
+      let off = none-waits ch e (n .1) in
+      let five = fifteen-present (setup .levels) (framed-levels setup framed) in
+      record {
+        small = omega (arith, q);
+        present = rw (q, five .1);
+        asking = inl q;
+        active =
+            rw q
+            (by-test (isInactive (ch .inactive) 15) (λ t. absurd (false≢true (sym off ∙ s .marked 15 (omega arith) t))) (λ f. f));
+      })
+      (winner-is (ch .left) (ch .inactive))
+
+  grant-settled : ch .phase ≡ Arbitrating → ch .clock + arbitrationTime ch ≤ clockLimit
+      → Settled setup (granted ch (winner (ch .left) (ch .inactive)))
+  unfolding granted
+  grant-settled e k =
+      let g = winner-grant e in
+      record {
+        owner = λ o f.
+            let w : winner (ch .left) (ch .inactive) ≡ o = cc in
+            rw (← w) (record { small = g .small; present = g .present; asking = g .asking; active = g .active });
+        request = s .settled .request;
+        blank = s .settled .blank;
+        fair = s .settled .fair;
+        clock = k;
+        unasked = λ f. let z : _≡_ {A = ℕ} 0 1 = cc in absurd (omega arith);
+        asked = λ o t f a. let z : _≡_ {A = ℕ} 0 1 = cc in absurd (omega arith);
+      }
+
+  -- release without a request
+  leave-settled : Settled setup (freed ch (ch .inactive))
+  unfolding freed
+  leave-settled =
+      record {
+        owner = λ o f. let z : _≡_ {A = ℕ} 0 1 = cc in absurd (omega arith);
+        request = s .settled .request;
+        blank = s .settled .blank;
+        fair = s .settled .fair;
+        clock = s .settled .clock;
+        unasked = λ f. refl;
+        asked = λ o t f a. let z : _≡_ {A = ℕ} 0 1 = cc in absurd (omega arith);
+      }
+
+-- the names of one cycle: the owner's path, what is left of its request, and the channel moved on
+abbrev pathAt : Setup → Channel → ℕ → Path
+pathAt setup ch o = pathOf setup o (requestOf ch o)
+
+abbrev restAt : Setup → Channel → ℕ → Request
+restAt setup ch o = restAfter (pathAt setup ch o) (requestOf ch o)
+
+abbrev movedAt : Setup → Channel → ℕ → Channel
+movedAt setup ch o = movedOn (pathAt setup ch o) ch o (requestOf ch o)
+
+clocked-shaped : (ch : Channel) (k : ℕ) → Shaped ch → Shaped (clocked ch k)
+unfolding clocked
+clocked-shaped ch k s =
+    record {
+      inactive = s .inactive;
+      direction = s .direction;
+      space = s .space;
+      address = s .address;
+      left = s .left;
+      offset = s .offset;
+    }
+
+slot-done : (q : Request) → eqb (q .left) 0 ≡ true → slotAfter q ≡ noRequest
+unfolding slotAfter
+slot-done q e = rw e
+
+slot-open : (q : Request) → eqb (q .left) 0 ≡ false → slotAfter q ≡ q
+unfolding slotAfter
+slot-open q e = rw e
+
+no-blank : isBlank noRequest ≡ true
+unfolding isBlank
+no-blank = refl
+
+-- one cycle of the owner of a sound channel
+module _ (setup : Setup) (framed : isFramed setup ≡ true) (ch : Channel) (shaped : Shaped ch) (s : Sound setup ch) (o : ℕ)
+    (phase : ch .phase ≡ Granted o) (asks : hasRequest (ch .left) o ≡ true)
+    (room : ch .clock + slaveOf (setup .slaves) (requestOf ch o) .time ≤ clockLimit) where
+  small : o ≤ 15
+  small = s .settled .owner o phase .small
+
+  present : isPresent (setup .levels) o ≡ true
+  present = s .settled .owner o phase .present
+
+  fits : Fits setup (requestOf ch o)
+  fits = fits-is setup (requestOf ch o) (s .settled .request o (omega (arith, small)) asks .1)
+
+  -- a cycle moves at least one byte
+  bytes-some : 0 < cycleBytes (pathAt setup ch o) (requestOf ch o)
+  unfolding pathOf
+  bytes-some =
+      let w = width-some _ (level-facts-of setup framed o present .0 .width) in
+      let p = port-some _ (slave-facts-of setup framed (requestOf ch o) fits .facts .port) in
+      length-some (narrower (pathAt setup ch o .width) (pathAt setup ch o .port)) (requestOf ch o .address) (requestOf ch o .left) (omega arith)
+      (fits .some)
+
+  -- what is left lies in the same row
+  part : 0 < restAt setup ch o .left
+      → slaveRow (setup .slaves) (restAt setup ch o .space) (restAt setup ch o .address) (restAt setup ch o .left)
+      ≡ Slave (slaveOf (setup .slaves) (requestOf ch o)) (startOf (setup .slaves) (requestOf ch o))
+  unfolding restAfter
+  part h =
+      found-part (setup .slaves) (framed-slaves setup framed) (requestOf ch o .space) (requestOf ch o .address) (requestOf ch o .left)
+      (restAt setup ch o .address) (restAt setup ch o .left) _ _ (fits .found) (omega arith) (omega arith) h
+
+  same-slave : 0 < restAt setup ch o .left → slaveOf (setup .slaves) (restAt setup ch o) ≡ slaveOf (setup .slaves) (requestOf ch o)
+  unfolding slaveOf
+  same-slave h = ap slaveOr (part h)
+
+  same-start : 0 < restAt setup ch o .left → startOf (setup .slaves) (restAt setup ch o) ≡ startOf (setup .slaves) (requestOf ch o)
+  unfolding startOf
+  same-start h = ap startOr (part h)
+
+  rest-fits : 0 < restAt setup ch o .left → Fits setup (restAt setup ch o)
+  unfolding restAfter
+  rest-fits h =
+      record {
+        some = h;
+        most = omega (arith, fits .most);
+        direction = fits .direction;
+        space = fits .space;
+        found = part h ∙ sym (ap₂ Slave (same-slave h) (same-start h));
+        master = omega (arith, fits .master);
+      }
+
+  -- the requests afterwards
+  here : (m : ℕ) → m ≡ o → requestOf (movedAt setup ch o) m ≡ slotAfter (restAt setup ch o)
+  unfolding movedOn
+  here m e =
+      rw e
+      (request-same (clocked ch (ch .clock + pathAt setup ch o .time)) o (slotAfter (restAt setup ch o))
+      (clocked-shaped ch (ch .clock + pathAt setup ch o .time) shaped) (omega (arith, small)))
+
+  other : (m : ℕ) → (m ≡ o → ⊥) → requestOf (movedAt setup ch o) m ≡ requestOf ch m
+  unfolding movedOn clocked
+  other m n = request-other (clocked ch (ch .clock + pathAt setup ch o .time)) o m (slotAfter (restAt setup ch o)) n
+
+  kept-open : (m : ℕ) → (m ≡ o → ⊥) → hasRequest (movedAt setup ch o .left) m ≡ hasRequest (ch .left) m
+  kept-open m n = ap (λ (q : Request). not (eqb (q .left) 0)) (other m n)
+
+  here-open : (m : ℕ) → m ≡ o → hasRequest (movedAt setup ch o .left) m ≡ not (eqb (slotAfter (restAt setup ch o) .left) 0)
+  here-open m e = ap (λ (q : Request). not (eqb (q .left) 0)) (here m e)
+
+  positive : (n : ℕ) → eqb n 0 ≡ false → 0 < n
+  positive n e = omega (arith, eqb-false n 0 e)
+
+  -- where the request goes on, its place holds the rest
+  goes-on : eqb (restAt setup ch o .left) 0 ≡ false → (m : ℕ) → m ≡ o → requestOf (movedAt setup ch o) m ≡ restAt setup ch o
+  goes-on n m e = here m e ∙ slot-open (restAt setup ch o) n
+
+  moved-request : (m : ℕ) → m < 16 → hasRequest (movedAt setup ch o .left) m ≡ true
+      → (isPresent (setup .levels) m ≡ true) × (requestVerdict setup (requestOf (movedAt setup ch o) m) ≡ Accepted)
+  moved-request m k h =
+      by-test (eqb m o)
+      (λ b.
+      let e = eqb-true m o b in
+      by-test (eqb (restAt setup ch o .left) 0)
+      (λ z. absurd (false≢true (sym (here-open m e ∙ ap (λ (q : Request). not (eqb (q .left) 0)) (slot-done (restAt setup ch o) z)) ∙ h)))
+      (λ n. (
+        ap (isPresent (setup .levels)) e ∙ present,
+        ap (requestVerdict setup) (goes-on n m e) ∙ fits-by setup (restAt setup ch o) (rest-fits (positive _ n)),
+      )))
+      (λ b.
+      let n = eqb-false m o b in
+      let r = s .settled .request m k (sym (kept-open m n) ∙ h) in
+      (r .0, ap (requestVerdict setup) (other m n) ∙ r .1))
+
+  moved-blank : (m : ℕ) → m < 16 → hasRequest (movedAt setup ch o .left) m ≡ false → isBlank (requestOf (movedAt setup ch o) m) ≡ true
+  moved-blank m k h =
+      by-test (eqb m o)
+      (λ b.
+      let e = eqb-true m o b in
+      by-test (eqb (restAt setup ch o .left) 0)
+      (λ z. ap isBlank (here m e ∙ slot-done (restAt setup ch o) z) ∙ no-blank)
+      (λ n.
+      let t : hasRequest (movedAt setup ch o .left) m ≡ true = ap (λ (q : Request). not (eqb (q .left) 0)) (goes-on n m e) ∙ rw n in
+      absurd (false≢true (sym h ∙ t))))
+      (λ b. let n = eqb-false m o b in ap isBlank (other m n) ∙ s .settled .blank m k (sym (kept-open m n) ∙ h))
+
+  -- the line is as it was: the owner has no part in it
+  drives-same : (l : ℕ) → l < 16
+      → drives (movedAt setup ch o .left) (ch .inactive) (ownerOf (ch .phase)) l ≡ drives (ch .left) (ch .inactive) (ownerOf (ch .phase)) l
+  unfolding drives
+  drives-same l k =
+      by-test (eqb l o)
+      (λ b.
+      let e : eqb l (ownerOf (ch .phase)) ≡ true = ap (λ (x : Phase). eqb l (ownerOf x)) phase ∙ b in
+      simp (e, and-false))
+      (λ b. rw (kept-open l (eqb-false l o b)))
+
+  line-same : line (movedAt setup ch o) ≡ line ch
+  unfolding lineActive movedOn clocked withRequest
+  line-same = any-ext _ _ 16 drives-same
+
+  -- the clock after the cycle
+  clockAfter : ℕ
+  clockAfter = ch .clock + pathAt setup ch o .time
+
+  -- the time of a transfer of the rest, by the path of the whole
+  transferAfter : ℕ
+  transferAfter =
+      transferTime (pathAt setup ch o .width) (pathAt setup ch o .port) (pathAt setup ch o .time) (restAt setup ch o .address) (restAt setup ch o .left)
+
+  transfer-same : 0 < restAt setup ch o .left → transferOf setup o (restAt setup ch o) ≡ transferAfter
+  unfolding transferOf transferAfter pathOf
+  transfer-same h = rw (same-slave h)
+
+  -- an owner that keeps the channel has something left
+  not-done : isLeaving (pathAt setup ch o) (ch .asked) clockAfter (restAt setup ch o) ≡ false → eqb (restAt setup ch o .left) 0 ≡ false
+  unfolding isLeaving
+  not-done e = by-test (eqb (restAt setup ch o .left) 0) (λ t. absurd (false≢true (sym e ∙ rw t))) (λ f. f)
+
+  -- inside a transfer its end stays where it was; at its end the release rule says that the next one fits
+  inside-within : (t : ℕ) → InTime setup ch o t
+      → isTransferEnd (pathAt setup ch o .width) (restAt setup ch o .address) (restAt setup ch o .left) ≡ false
+      → isWithin (allowance setup) transferAfter clockAfter t ≡ true
+  unfolding isWithin isInTime transferOf transferAfter clockAfter restAfter pathOf
+  inside-within t i e =
+      let q = requestOf ch o in
+      let w = level-facts-of setup framed o present .0 .width in
+      let p = slave-facts-of setup framed q fits .facts .port in
+      let k = leb-true _ (t + allowance setup) (rw (not-true (eqb (q .left) 0) asks) at (i .kept)) in
+      let d = time-left (pathAt setup ch o .width) (pathAt setup ch o .port) w p (q .address) (q .left) (pathAt setup ch o .time) e in
+      le-leb _ (t + allowance setup) (omega (arith, k, d))
+
+  end-within : (t : ℕ) → ch .asked ≡ At t → isLeaving (pathAt setup ch o) (ch .asked) clockAfter (restAt setup ch o) ≡ false
+      → isTransferEnd (pathAt setup ch o .width) (restAt setup ch o .address) (restAt setup ch o .left) ≡ true
+      → isWithin (allowance setup) transferAfter clockAfter t ≡ true
+  unfolding isLeaving isLate transferAfter pathOf
+  end-within t a e f =
+      let u = rw f at e in
+      let late = or-none (not (hasBurst (pathAt setup ch o .options))) _ (or-none (eqb (restAt setup ch o .left) 0) _ u .1) .1 in
+      let both = or-none (not (hasLinger (pathAt setup ch o .options))) _ (sym (ap (λ (x : Asked). lateFor (pathAt setup ch o) x clockAfter (restAt setup ch o)) a) ∙ late) in
+      not-false _ (both .1)
+
+  kept-in-time : (t : ℕ) → ch .asked ≡ At t → isLeaving (pathAt setup ch o) (ch .asked) clockAfter (restAt setup ch o) ≡ false
+      → isInTime setup o (requestOf (movedAt setup ch o) o) clockAfter t ≡ true
+  unfolding isInTime
+  kept-in-time t a e =
+      let n = not-done e in
+      let i = s .settled .asked o t phase a in
+      ap (λ (q : Request). isInTime setup o q clockAfter t) (goes-on n o refl)
+      ∙ rw (n, transfer-same (positive _ n))
+      (by-test (isTransferEnd (pathAt setup ch o .width) (restAt setup ch o .address) (restAt setup ch o .left))
+      (end-within t a e)
+      (inside-within t i))
+
+  -- kept
+  kept-settled : isLeaving (pathAt setup ch o) (ch .asked) clockAfter (restAt setup ch o) ≡ false → Settled setup (movedAt setup ch o)
+  unfolding movedOn clocked withRequest pathOf clockAfter
+  kept-settled e =
+      let g = s .settled .owner o phase in
+      record {
+        owner = λ p f.
+            let same : o ≡ p = cc in
+            rw (← same)
+            (record {
+              small = small;
+              present = present;
+              asking = inr (ap (λ (q : Request). not (eqb (q .left) 0)) (goes-on (not-done e) o refl) ∙ rw (not-done e));
+              active = g .active;
+            });
+        request = moved-request;
+        blank = moved-blank;
+        fair = s .settled .fair;
+        clock = room;
+        unasked = s .settled .unasked;
+        asked = λ p t f a.
+            let same : o ≡ p = cc in
+            rw (← same)
+            (record {
+              line = line-same ∙ s .settled .asked o t phase a .line;
+              past = omega (arith, s .settled .asked o t phase a .past);
+              kept = kept-in-time t a e;
+            });
+      }
+
+  -- released, with the marks as they are then
+  freed-settled : (marks : List Bool)
+      → ((l : ℕ) → l < 16 → isInactive marks l ≡ true → (isPresent (setup .levels) l ≡ true) × (isFair (levelOf (setup .levels) l .options) ≡ true))
+      → Settled setup (freed (movedAt setup ch o) marks)
+  unfolding freed movedOn clocked withRequest pathOf
+  freed-settled marks h =
+      record {
+        owner = λ p f. let z : _≡_ {A = ℕ} 0 1 = cc in absurd (omega arith);
+        request = moved-request;
+        blank = moved-blank;
+        fair = h;
+        clock = room;
+        unasked = λ f. refl;
+        asked = λ p t f a. let z : _≡_ {A = ℕ} 0 1 = cc in absurd (omega arith);
+      }
+
+  -- a mark set at a fair owner
+  marked-fair : isFair (levelOf (setup .levels) o .options) ≡ true → (l : ℕ) → l < 16 → isInactive (markedAt (ch .inactive) o) l ≡ true
+      → (isPresent (setup .levels) l ≡ true) × (isFair (levelOf (setup .levels) l .options) ≡ true)
+  marked-fair f l k e =
+      by-test (eqb l o)
+      (λ b.
+      let q = eqb-true l o b in
+      (ap (isPresent (setup .levels)) q ∙ present, ap (λ (m : ℕ). isFair (levelOf (setup .levels) m .options)) q ∙ f))
+      (λ b. s .settled .fair l k (sym (getD-set-other (ch .inactive) o l true false (eqb-false l o b)) ∙ e))
+
+  released-settled : (a : Asked) → Settled setup (endedBy (releasedBy (pathAt setup ch o .options) a clockAfter) (movedAt setup ch o) o)
+  unfolding pathOf movedOn clocked withRequest
+  released-settled Never = freed-settled (ch .inactive) (s .settled .fair)
+  released-settled (At t) =
+      by-test (isFair (levelOf (setup .levels) o .options))
+      (λ f. rw f (freed-settled (markedAt (ch .inactive) o) (marked-fair f)))
+      (λ n. rw n (freed-settled (ch .inactive) (s .settled .fair)))
+
+  cycle-settled : Settled setup (endedBy (endingOf (pathAt setup ch o) (ch .asked) clockAfter (restAt setup ch o)) (movedAt setup ch o) o)
+  unfolding endingOf
+  cycle-settled =
+      by-test (isLeaving (pathAt setup ch o) (ch .asked) clockAfter (restAt setup ch o))
+      (λ t. rw t (released-settled (ch .asked)))
+      (λ f. rw f (kept-settled f))
+
+-- a step of a sound channel is sound
+module _ (setup : Setup) (framed : isFramed setup ≡ true) (ch : Channel) (shaped : Shaped ch) (s : Sound setup ch) where
+  cycle-sound : (o : ℕ) → actPlan setup ch ≡ Cycle o → Sound setup (steppedBy setup ch (Cycle o) .channel)
+  unfolding cycleTurn clockAfter
+  cycle-sound o e =
+      let p = says setup ch (Cycle o) e in
+      rule-sound setup framed
+      (endedBy (endingOf (pathAt setup ch o) (ch .asked) (ch .clock + pathAt setup ch o .time) (restAt setup ch o)) (movedAt setup ch o) o)
+      (cycle-settled setup framed ch shaped s o (p .0) (rw (p .1)) (p .2))
+
+  grant-sound : (w : ℕ) → actPlan setup ch ≡ Grant w → Sound setup (steppedBy setup ch (Grant w) .channel)
+  unfolding grantTurn
+  grant-sound w e =
+      let p = says setup ch (Grant w) e in
+      rule-sound setup framed (granted ch w) (rw (p .1) (grant-settled setup framed ch s (p .0) (p .2)))
+
+  leave-sound : (o : ℕ) → Sound setup (steppedBy setup ch (Leave o) .channel)
+  unfolding leaveTurn
+  leave-sound o = rule-sound setup framed (freed ch (ch .inactive)) (leave-settled setup framed ch s)
+
+  pub step-sound : (plan : Plan) → actPlan setup ch ≡ plan → Sound setup (steppedBy setup ch plan .channel)
+  step-sound Idle e = s
+  step-sound (Refused why) e = s
+  step-sound (Grant w) e = grant-sound w e
+  step-sound (Leave o) e = leave-sound o
+  step-sound (Cycle o) e = cycle-sound o e
+
+-- and keeps the arrays' shape
+freed-shaped : (ch : Channel) (marks : List Bool) → length marks ≡ 16 → Shaped ch → Shaped (freed ch marks)
+unfolding freed
+freed-shaped ch marks n k =
+    record { inactive = n; direction = k .direction; space = k .space; address = k .address; left = k .left; offset = k .offset }
+
+granted-shaped : (ch : Channel) (w : ℕ) → Shaped ch → Shaped (granted ch w)
+unfolding granted
+granted-shaped ch w k =
+    record { inactive = k .inactive; direction = k .direction; space = k .space; address = k .address; left = k .left; offset = k .offset }
+
+ended-shaped : (ending : Ending) (ch : Channel) (o : ℕ) → Shaped ch → Shaped (endedBy ending ch o)
+ended-shaped Kept ch o k = k
+ended-shaped (Released h) ch o k = freed-shaped ch (ch .inactive) (k .inactive) k
+ended-shaped (Marked h) ch o k = freed-shaped ch (markedAt (ch .inactive) o) (length-set (ch .inactive) o true ∙ k .inactive) k
+
+moved-shaped : (path : Path) (ch : Channel) (o : ℕ) (q : Request) → Shaped ch → Shaped (movedOn path ch o q)
+unfolding movedOn
+moved-shaped path ch o q k =
+    with-shaped (clocked ch (ch .clock + path .time)) o (slotAfter (restAfter path q)) (clocked-shaped ch (ch .clock + path .time) k)
+
+pub step-shaped : (setup : Setup) (ch : Channel) (plan : Plan) → Shaped ch → Shaped (steppedBy setup ch plan .channel)
+unfolding grantTurn leaveTurn cycleTurn
+step-shaped setup ch Idle k = k
+step-shaped setup ch (Refused why) k = k
+step-shaped setup ch (Grant w) k = rule-shaped (granted ch w) (granted-shaped ch w k)
+step-shaped setup ch (Leave o) k = rule-shaped (freed ch (ch .inactive)) (freed-shaped ch (ch .inactive) (k .inactive) k)
+step-shaped setup ch (Cycle o) k =
+    let ending = endingOf (pathAt setup ch o) (ch .asked) (ch .clock + pathAt setup ch o .time) (restAt setup ch o) in
+    rule-shaped (endedBy ending (movedAt setup ch o) o)
+    (ended-shaped ending (movedAt setup ch o) o (moved-shaped (pathAt setup ch o) ch o (requestOf ch o) k))
