@@ -50,7 +50,7 @@ use Rattle.act.specs.Turn.{arbitrationTime, granted, grantTurn, leaveTurn}
 use Rattle.step.specs.declared.Plan.{Plan}
 use Rattle.step.specs.declared.Plan.the-variants.{Idle, Refused, Grant, Leave, Cycle}
 use Rattle.step.specs.Plan.{actPlan}
-use Rattle.step.specs.Step.{steppedBy}
+use Rattle.step.specs.Step.{advancedBy}
 use Rattle.step.proofs.PlanLaws.{says}
 
 -- grant: the winner waits, or nobody does and there are no marks at all, so that 15 is unmarked too
@@ -392,7 +392,7 @@ module _ (setup : Setup) (framed : isFramed setup ≡ true) (ch : Channel) (shap
 
 -- a step of a sound channel is sound
 module _ (setup : Setup) (framed : isFramed setup ≡ true) (ch : Channel) (shaped : Shaped ch) (s : Sound setup ch) where
-  cycle-sound : (o : ℕ) → actPlan setup ch ≡ Cycle o → Sound setup (steppedBy setup ch (Cycle o) .channel)
+  cycle-sound : (o : ℕ) → actPlan setup ch ≡ Cycle o → Sound setup (advancedBy setup ch (Cycle o) .channel)
   unfolding cycleTurn clockAfter
   cycle-sound o e =
       let p = says setup ch (Cycle o) e in
@@ -400,17 +400,17 @@ module _ (setup : Setup) (framed : isFramed setup ≡ true) (ch : Channel) (shap
       (endedBy (endingOf (pathAt setup ch o) (ch .asked) (ch .clock + pathAt setup ch o .time) (restAt setup ch o)) (movedAt setup ch o) o)
       (cycle-settled setup framed ch shaped s o (p .0) (rw (p .1)) (p .2))
 
-  grant-sound : (w : ℕ) → actPlan setup ch ≡ Grant w → Sound setup (steppedBy setup ch (Grant w) .channel)
+  grant-sound : (w : ℕ) → actPlan setup ch ≡ Grant w → Sound setup (advancedBy setup ch (Grant w) .channel)
   unfolding grantTurn
   grant-sound w e =
       let p = says setup ch (Grant w) e in
       rule-sound setup framed (granted ch w) (rw (p .1) (grant-settled setup framed ch s (p .0) (p .2)))
 
-  leave-sound : (o : ℕ) → Sound setup (steppedBy setup ch (Leave o) .channel)
+  leave-sound : (o : ℕ) → Sound setup (advancedBy setup ch (Leave o) .channel)
   unfolding leaveTurn
   leave-sound o = rule-sound setup framed (freed ch (ch .inactive)) (leave-settled setup framed ch s)
 
-  pub step-sound : (plan : Plan) → actPlan setup ch ≡ plan → Sound setup (steppedBy setup ch plan .channel)
+  pub step-sound : (plan : Plan) → actPlan setup ch ≡ plan → Sound setup (advancedBy setup ch plan .channel)
   step-sound Idle e = s
   step-sound (Refused why) e = s
   step-sound (Grant w) e = grant-sound w e
@@ -438,7 +438,7 @@ unfolding movedOn
 moved-shaped path ch o q k =
     with-shaped (clocked ch (ch .clock + path .time)) o (slotAfter (restAfter path q)) (clocked-shaped ch (ch .clock + path .time) k)
 
-pub step-shaped : (setup : Setup) (ch : Channel) (plan : Plan) → Shaped ch → Shaped (steppedBy setup ch plan .channel)
+pub step-shaped : (setup : Setup) (ch : Channel) (plan : Plan) → Shaped ch → Shaped (advancedBy setup ch plan .channel)
 unfolding grantTurn leaveTurn cycleTurn
 step-shaped setup ch Idle k = k
 step-shaped setup ch (Refused why) k = k

@@ -1,15 +1,16 @@
 -- What each plan says of the channel, and that a planned cycle has all the room that it needs.
 use Prim.Native.Nat.{ℕ, _+_, _-_, _≤_, _<_}
 use mathlib.Core.Path.{_≡_, refl, sym, ap, _∙_}
-use mathlib.Core.Bool.{Bool, true, false, cond, not}
+use mathlib.Core.Bool.{Bool, true, false, _&&_}
 use native.Mathlib.Nat.{le-trans}
 use native.Mathlib.Omega.{arith}
-use borrow.Author.Tests.{ltb-false, eqb-true, eqb-false}
+use borrow.Author.Tests.{ltb-false, eqb-true, eq-eqb}
 use lib.Dec.{eqb, ltb}
 use lib.ListN.{getD, length}
 use Rattle.refusal.specs.declared.Refusal.{Refusal}
 use Rattle.refusal.specs.declared.Refusal.the-variants.{ClockFull}
-use Rattle.basics.proofs.Tests.{by-test}
+use Rattle.refusal.specs.declared.Verdict.the-variants.{Accepted, Refused as NotReady}
+use Rattle.basics.proofs.Tests.{by-test, and-left, and-right}
 use Rattle.frame.specs.Frame.{isFramed}
 use Rattle.frame.specs.Find.{slaveStoreLength}
 use Rattle.frame.specs.declared.Setup.{Setup}
@@ -28,7 +29,7 @@ use Rattle.act.specs.Cycle.{pathOf}
 use Rattle.act.specs.Turn.{arbitrationTime}
 use Rattle.step.specs.declared.Plan.{Plan}
 use Rattle.step.specs.declared.Plan.the-variants.{Idle, Refused, Grant, Leave, Cycle}
-use Rattle.step.specs.Plan.{timed, requestPlan, ownerPlan, phasePlan, actPlan}
+use Rattle.step.specs.Plan.{timed, ownerPlan, phasePlan, actPlan, readyVerdict, planBy, planOf}
 use Rattle.step.specs.Step.{Ready, Able}
 
 -- what is known where a plan was made
@@ -88,3 +89,29 @@ able setup ch o slave master r e =
       slave = omega (arith, found .inside, found .range .begins, found .range .ends, r .slave);
       master = omega (arith, f .master, r .master);
     }
+
+-- a call that is refused by neither 9 nor 8 is ready, and its plan is the act's
+not-ready : {r : Refusal} → NotReady r ≡ Accepted → ⊥
+not-ready e = let z : _≡_ {A = ℕ} 0 1 = cc in omega arith
+
+pub ready-is : (setup : Setup) (ch : Channel) (slave master : ℕ) → readyVerdict setup ch slave master ≡ Accepted → Ready setup ch slave master
+unfolding readyVerdict
+ready-is setup ch slave master e =
+    let nine = by-test (isFramed setup && isSound setup ch) (λ t. t) (λ f. absurd (not-ready (rw f at e))) in
+    let e1 = rw nine at e in
+    let lengths = eqb slave (slaveStoreLength (setup .slaves)) && eqb master (setup .master) in
+    let eight = by-test lengths (λ t. t) (λ f. absurd (not-ready (rw f at e1))) in
+    record {
+      framed = and-left _ _ nine;
+      sound = and-right (isFramed setup) _ nine;
+      slave = eqb-true slave _ (and-left _ _ eight);
+      master = eqb-true master _ (and-right (eqb slave (slaveStoreLength (setup .slaves))) _ eight);
+    }
+
+pub ready-by : (setup : Setup) (ch : Channel) (slave master : ℕ) → Ready setup ch slave master → readyVerdict setup ch slave master ≡ Accepted
+unfolding readyVerdict
+ready-by setup ch slave master r = rw (r .framed, r .sound, eq-eqb slave _ (r .slave), eq-eqb master _ (r .master))
+
+pub plan-ready : (setup : Setup) (ch : Channel) (slave master : ℕ) → Ready setup ch slave master → planOf setup ch slave master ≡ actPlan setup ch
+unfolding planOf
+plan-ready setup ch slave master r = ap (planBy setup ch) (ready-by setup ch slave master r)

@@ -3,6 +3,8 @@ use Prim.Native.Nat.{ℕ, _+_}
 use mathlib.Core.Bool.{Bool, cond, not, _&&_}
 use lib.Dec.{eqb, ltb}
 use Rattle.refusal.specs.declared.Refusal.the-variants.{Unsound, StoreLength, ClockFull}
+use Rattle.refusal.specs.declared.Verdict.{Verdict}
+use Rattle.refusal.specs.declared.Verdict.the-variants.{Accepted, Refused as NotReady}
 use Rattle.frame.specs.Frame.{isFramed}
 use Rattle.frame.specs.Find.{slaveStoreLength}
 use Rattle.frame.specs.declared.Setup.{Setup}
@@ -38,13 +40,18 @@ phasePlan setup ch (Granted owner) = ownerPlan setup ch owner
 unfoldable pub actPlan : Setup → Channel → Plan
 actPlan setup ch = phasePlan setup ch (ch .phase)
 
--- "9 first, then 8": "8: step, run: a lent store's length differs from the set-up"
-unfoldable pub planOf : Setup → Channel → ℕ → ℕ → Plan
-planOf setup ch slave master =
+-- "9 first, then 8": "9: .. step, run: the set-up breaks the frame .. the channel is unsound", "8: step, run: a lent store's length differs from the set-up"
+unfoldable pub readyVerdict : Setup → Channel → ℕ → ℕ → Verdict
+readyVerdict setup ch slave master =
     cond
     (not (isFramed setup && isSound setup ch))
-    (Refused Unsound)
-    (cond
-    (not (eqb slave (slaveStoreLength (setup .slaves)) && eqb master (setup .master)))
-    (Refused StoreLength)
-    (actPlan setup ch))
+    (NotReady Unsound)
+    (cond (not (eqb slave (slaveStoreLength (setup .slaves)) && eqb master (setup .master))) (NotReady StoreLength) Accepted)
+
+abbrev pub planBy : Setup → Channel → Verdict → Plan
+planBy setup ch Accepted = actPlan setup ch
+planBy setup ch (NotReady why) = Refused why
+
+-- then 6, where the step would take time
+unfoldable pub planOf : Setup → Channel → ℕ → ℕ → Plan
+planOf setup ch slave master = planBy setup ch (readyVerdict setup ch slave master)

@@ -6,7 +6,6 @@ use mathlib.Core.List.{List}
 use lib.ListN.{length, drop}
 use lib.Seq.{paste}
 use lib.Dec.{eqb}
-use Rattle.refusal.specs.declared.Refusal.{Refusal}
 use Rattle.frame.specs.Frame.{isFramed}
 use Rattle.frame.specs.Find.{slaveStoreLength}
 use Rattle.frame.specs.declared.Setup.{Setup}
@@ -14,29 +13,42 @@ use Rattle.channel.specs.declared.Channel.{Channel}
 use Rattle.channel.specs.declared.Request.{Request}
 use Rattle.channel.specs.Channel.{requestOf}
 use Rattle.sound.specs.Sound.{clockLimit, isSound}
+use Rattle.tally.specs.declared.Tally.{Tally}
+use Rattle.tally.specs.Tally.{addEntry}
 use Rattle.act.specs.declared.Path.{Path}
 use Rattle.step.specs.declared.Plan.{Plan}
 use Rattle.step.specs.declared.Plan.the-variants.{Idle, Refused, Grant, Leave, Cycle}
 use Rattle.act.specs.declared.Turned.{Turned}
+use Rattle.step.specs.declared.Advanced.{Advanced}
 use Rattle.step.specs.declared.Stepped.{Stepped}
+use Rattle.step.specs.declared.StepAnswer.{StepAnswer}
 use Rattle.step.specs.declared.StepAnswer.the-variants.{Done, Refused as NotDone}
 use Rattle.act.specs.Cycle.{pathOf, cycleBytes, cycleTurn}
 use Rattle.act.specs.Turn.{grantTurn, leaveTurn, idleTurn}
 use Rattle.step.specs.Plan.{planOf}
 
-abbrev pub doneBy : Turned → Stepped
+abbrev pub doneBy : Turned → Advanced
 doneBy turned = record { channel = turned .channel; answer = Done (turned .entry) }
 
 -- "A refused call gives back the channel it got"; a refused step "has no entry"
-abbrev pub steppedBy : Setup → Channel → Plan → Stepped
-steppedBy setup ch (Refused why) = record { channel = ch; answer = NotDone why }
-steppedBy setup ch Idle = doneBy (idleTurn ch)
-steppedBy setup ch (Grant winner) = doneBy (grantTurn ch winner)
-steppedBy setup ch (Leave owner) = doneBy (leaveTurn ch owner)
-steppedBy setup ch (Cycle owner) = doneBy (cycleTurn (pathOf setup owner (requestOf ch owner)) ch owner (requestOf ch owner))
+abbrev pub advancedBy : Setup → Channel → Plan → Advanced
+advancedBy setup ch (Refused why) = record { channel = ch; answer = NotDone why }
+advancedBy setup ch Idle = doneBy (idleTurn ch)
+advancedBy setup ch (Grant winner) = doneBy (grantTurn ch winner)
+advancedBy setup ch (Leave owner) = doneBy (leaveTurn ch owner)
+advancedBy setup ch (Cycle owner) = doneBy (cycleTurn (pathOf setup owner (requestOf ch owner)) ch owner (requestOf ch owner))
 
-unfoldable pub stepOf : Setup → Channel → ℕ → ℕ → Stepped
-stepOf setup ch slave master = steppedBy setup ch (planOf setup ch slave master)
+-- "Each step .. adds to the tally by that entry"; "A refused step leaves it"
+abbrev pub tallyBy : Tally → StepAnswer → Tally
+tallyBy t (Done entry) = addEntry t entry
+tallyBy t (NotDone why) = t
+
+abbrev pub tallied : Tally → Advanced → Stepped
+tallied t a = record { channel = a .channel; tally = tallyBy t (a .answer); answer = a .answer }
+
+-- one step, over stores of these lengths
+unfoldable pub stepOf : Setup → Channel → Tally → ℕ → ℕ → Stepped
+stepOf setup ch t slave master = tallied t (advancedBy setup ch (planOf setup ch slave master))
 
 -- "The i-th byte goes with address + i and offset + i.": where a request's next byte lies in the slave store
 unfoldable pub placeFor : Path → Request → ℕ

@@ -10,6 +10,8 @@ use channel::Phase;
 use channel::Request;
 use frame::Setup;
 use refusal::Refusal;
+use refusal::Verdict;
+use tally::Tally;
 ghost use mathlib.Core.Path.{_≡_};
 ghost use Prim.Native.Nat.{_+_, _-_, _≤_};
 ghost use lib.ListN.{length, drop};
@@ -17,8 +19,8 @@ ghost use lib.Seq.{paste};
 ghost use Rattle.channel.specs.Channel.{requestOf, withRequest};
 ghost use Rattle.act.specs.Cycle.{pathOf, restAfter, clocked, cycleTurn};
 ghost use Rattle.act.specs.Turn.{arbitrationTime, granted, grantTurn};
-ghost use Rattle.step.specs.Plan.{ownerPlan, actPlan, planOf};
-ghost use Rattle.step.specs.Step.{Ready, Able, doneBy, steppedBy, movedSlave, movedMaster, slaveBy, masterBy};
+ghost use Rattle.step.specs.Plan.{ownerPlan, actPlan, readyVerdict, planOf};
+ghost use Rattle.step.specs.Step.{Ready, Able, doneBy, advancedBy, tallyBy, stepOf, movedSlave, movedMaster, slaveBy, masterBy, slaveAfter, masterAfter};
 
 // What a step is going to do.
 pub enum Plan {
@@ -34,10 +36,25 @@ pub enum StepAnswer {
     Refused(Refusal),
 }
 
-// The channel after a step, and its entry or why it was refused.
-pub struct Stepped {
+// The channel after a step of a sound channel, and its entry or why it was refused.
+pub struct Advanced {
     pub channel: Channel,
     pub answer: StepAnswer,
+}
+
+// The channel and the tally after a step, and its entry or why it was refused.
+pub struct Stepped {
+    pub channel: Channel,
+    pub tally: Tally,
+    pub answer: StepAnswer,
+}
+
+// The channel and the tally after a run, the steps done, and why it was refused or stopped, if it was.
+pub struct Ran {
+    pub channel: Channel,
+    pub tally: Tally,
+    pub steps: u32,
+    pub verdict: Verdict,
 }
 
 // The plan while a level owns the channel: a cycle of its request, or without one a release or nothing.
@@ -76,18 +93,29 @@ fn act_plan(setup: Setup, channel: Channel) -> Plan
     }
 }
 
+// Refusals 9 and 8, which a step and a run share.
+fn ready_verdict(setup: Setup, channel: Channel, slave: usize, master: usize) -> Verdict
+    ensures { λ r. ⌜ r ≡ readyVerdict setup channel slave master ⌝ }
+{
+    if !(frame::is_framed(setup) & sound::is_sound(setup, channel)) {
+        return Verdict::Refused(Refusal::Unsound);
+    }
+    let slaves = setup.slaves;
+    if !((slave == frame::slave_store_length(slaves)) & (master == setup.master as usize)) {
+        return Verdict::Refused(Refusal::StoreLength);
+    }
+    Verdict::Accepted
+}
+
 // The plan of a step over stores of these lengths: refusals 9, 8 and 6, in that order, or what the step does.
 pub fn plan_of(setup: Setup, channel: Channel, slave: usize, master: usize) -> Plan
     ensures { λ r. ⌜ r ≡ planOf setup channel slave master ⌝ }
 {
-    if !(frame::is_framed(setup) & sound::is_sound(setup, channel)) {
-        return Plan::Refused(Refusal::Unsound);
+    let verdict = ready_verdict(setup, channel, slave, master);
+    match verdict {
+        Verdict::Accepted => act_plan(setup, channel),
+        Verdict::Refused(why) => Plan::Refused(why),
     }
-    let slaves = setup.slaves;
-    if !((slave == frame::slave_store_length(slaves)) & (master == setup.master as usize)) {
-        return Plan::Refused(Refusal::StoreLength);
-    }
-    act_plan(setup, channel)
 }
 
 // What is left of a request after one cycle.
@@ -215,21 +243,21 @@ fn carry(path: Path, request: Request, slave: &mut [u8], master: &mut [u8])
 }
 
 // A step that was taken, as an answer.
-fn finished(turned: Turned) -> Stepped
+fn finished(turned: Turned) -> Advanced
     ensures { λ r. ⌜ r ≡ doneBy turned ⌝ }
 {
     let channel = turned.channel;
     let entry = turned.entry;
-    Stepped {
+    Advanced {
         channel: channel,
         answer: StepAnswer::Done(entry),
     }
 }
 
 // One cycle of the owner's request: the bytes are moved, the request goes on, and the line rule follows.
-fn cycle_step(setup: Setup, channel: Channel, owner: u8, slave: &mut [u8], master: &mut [u8]) -> Stepped
+fn cycle_step(setup: Setup, channel: Channel, owner: u8, slave: &mut [u8], master: &mut [u8]) -> Advanced
     requires { ⌜ Able (pathOf setup owner (requestOf channel owner)) channel (requestOf channel owner) (length (now slave)) (length (now master)) ⌝ }
-    ensures { λ r. ⌜ r ≡ steppedBy setup channel (Plan.Cycle owner) ⌝ }
+    ensures { λ r. ⌜ r ≡ advancedBy setup channel (Plan.Cycle owner) ⌝ }
     ensures { λ r. ⌜ now (slave .exit) ≡ slaveBy setup channel (Plan.Cycle owner) (now (slave .entry)) (now (master .entry)) ⌝ }
     ensures { λ r. ⌜ now (master .exit) ≡ masterBy setup channel (Plan.Cycle owner) (now (slave .entry)) (now (master .entry)) ⌝ }
 {
@@ -240,24 +268,61 @@ fn cycle_step(setup: Setup, channel: Channel, owner: u8, slave: &mut [u8], maste
 }
 
 // The step of a sound channel over stores of the right lengths.
-fn advance(setup: Setup, channel: Channel, slave: &mut [u8], master: &mut [u8]) -> Stepped
+fn advance(setup: Setup, channel: Channel, slave: &mut [u8], master: &mut [u8]) -> Advanced
     requires { ⌜ Ready setup channel (length (now slave)) (length (now master)) ⌝ }
-    ensures { λ r. ⌜ r ≡ steppedBy setup channel (actPlan setup channel) ⌝ }
+    ensures { λ r. ⌜ r ≡ advancedBy setup channel (actPlan setup channel) ⌝ }
     ensures { λ r. ⌜ now (slave .exit) ≡ slaveBy setup channel (actPlan setup channel) (now (slave .entry)) (now (master .entry)) ⌝ }
     ensures { λ r. ⌜ now (master .exit) ≡ masterBy setup channel (actPlan setup channel) (now (slave .entry)) (now (master .entry)) ⌝ }
 {
     let plan = act_plan(setup, channel);
     match plan {
-        Plan::Idle => Stepped {
+        Plan::Idle => Advanced {
             channel: channel,
             answer: StepAnswer::Done(Entry::Idle(channel.clock)),
         },
-        Plan::Refused(why) => Stepped {
+        Plan::Refused(why) => Advanced {
             channel: channel,
             answer: StepAnswer::Refused(why),
         },
         Plan::Grant(winner) => finished(turn_grant(channel, winner)),
         Plan::Leave(owner) => finished(act::turn_leave(channel, owner)),
         Plan::Cycle(owner) => cycle_step(setup, channel, owner, slave, master),
+    }
+}
+
+// The tally by a step's answer: a refused step leaves it.
+fn tally_by(tally: Tally, answer: StepAnswer) -> Tally
+    ensures { λ r. ⌜ r ≡ tallyBy tally answer ⌝ }
+{
+    match answer {
+        StepAnswer::Done(entry) => tally::add_entry(tally, entry),
+        StepAnswer::Refused(_) => tally,
+    }
+}
+
+// One step. A refused step gives back the channel and the tally that it got and writes to no store.
+pub fn step(setup: Setup, channel: Channel, tally: Tally, slave: &mut [u8], master: &mut [u8]) -> Stepped
+    ensures { λ r. ⌜ r ≡ stepOf setup channel tally (length (now (slave .entry))) (length (now (master .entry))) ⌝ }
+    ensures { λ r. ⌜ now (slave .exit) ≡ slaveAfter setup channel (now (slave .entry)) (now (master .entry)) ⌝ }
+    ensures { λ r. ⌜ now (master .exit) ≡ masterAfter setup channel (now (slave .entry)) (now (master .entry)) ⌝ }
+{
+    let verdict = ready_verdict(setup, channel, slave.len(), master.len());
+    match verdict {
+        Verdict::Refused(why) => Stepped {
+            channel: channel,
+            tally: tally,
+            answer: StepAnswer::Refused(why),
+        },
+        Verdict::Accepted => {
+            let next = advance(setup, channel, slave, master);
+            let after = next.channel;
+            let answer = next.answer;
+            let figures = tally_by(tally, answer);
+            Stepped {
+                channel: after,
+                tally: figures,
+                answer: answer,
+            }
+        }
     }
 }

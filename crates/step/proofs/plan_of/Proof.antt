@@ -1,60 +1,40 @@
-use Rattle.step.specs.Plan.{planOf}
+use Rattle.step.specs.Plan.{planOf, planBy}
 use borrow.Author.Needs.{needs}
 use mathlib.Core.Path.{_≡_, refl, sym, ap, _∙_}
 use Rattle.step.proofs.plan_of.Statement.{statement}
 use Rattle.step.proofs.plan_of.Tie as tie
 
-is-framed-requires : tie.Need-is-framed-requires
-is-framed-requires c κs = search needs
+ready-verdict-requires : tie.Need-ready-verdict-requires
+ready-verdict-requires c κs = search needs
 
-is-sound-requires : tie.Need-is-sound-requires
-is-sound-requires c κs = search needs
-
-returns : tie.Need-returns
-unfolding planOf
-returns c = rw (← c .before .before .is-framed .ensures, ← c .before .is-sound .ensures, c .if1 .taken)
-
-slave-store-length-requires : tie.Need-slave-store-length-requires
-slave-store-length-requires c κs = search needs
-
-cast-if2 : tie.Need-cast-if2
-cast-if2 c = search needs
-
-returns-2 : tie.Need-returns-2
-unfolding planOf
-returns-2 c =
-    rw (
-      ← c .before .before .before .before .before .before .is-framed .ensures,
-      ← c .before .before .before .before .before .is-sound .ensures,
-      c .before .before .before .before .if1 .left,
-      ← c .before .before .slave-store-length .ensures,
-      c .if2 .taken,
-    )
+enum-told : tie.Need-enum-told
+enum-told c = search needs
 
 act-plan-requires : tie.Need-act-plan-requires
 act-plan-requires c κs = search needs
 
-returns-3 : tie.Need-returns-3
+enum-known-verdict : tie.Need-enum-known-verdict
+enum-known-verdict c = search needs
+
+returns : tie.Need-returns
 unfolding planOf
-returns-3 c =
-    rw (
-      c .act-plan .ensures,
-      ← c .before .before .before .before .before .before .before .is-framed .ensures,
-      ← c .before .before .before .before .before .before .is-sound .ensures,
-      c .before .before .before .before .before .if1 .left,
-      ← c .before .before .before .slave-store-length .ensures,
-      c .before .if2 .left,
-    )
+returns c =
+    let a = c .before .before .before .before .args in
+    c .act-plan .ensures ∙ ap (planBy (a .setup) (a .channel)) (sym (c .before .enum-told .given .1) ∙ c .before .before .before .ready-verdict .ensures)
+
+returns-2 : tie.Need-returns-2
+unfolding planOf
+returns-2 c =
+    let a = c .before .before .before .before .args in
+    ap (planBy (a .setup) (a .channel)) (sym (c .before .verdict .given .1) ∙ c .before .before .before .ready-verdict .ensures)
 
 pub plan-of-spec : {M : Type 1} → statement M
 plan-of-spec =
     tie.close
     (tie.spec
-    is-framed-requires
-    is-sound-requires
-    returns
-    slave-store-length-requires
-    cast-if2
-    returns-2
+    ready-verdict-requires
+    enum-told
     act-plan-requires
-    returns-3)
+    enum-known-verdict
+    returns
+    returns-2)

@@ -1,0 +1,45 @@
+-- Document 01, "One step": "There is a tally the host lends: grants, cycles, bytes moved, longest hold (the greatest release clock less asked time, over
+-- releases that had one). .. Each step, in a run too, adds to the tally by that entry; a figure stops at 4,294,967,295."
+use Prim.Native.Nat.{ℕ, _+_, min, max}
+use Rattle.act.specs.declared.Hold.{Hold}
+use Rattle.act.specs.declared.Hold.the-variants.{Unasked, After}
+use Rattle.act.specs.declared.Ending.{Ending}
+use Rattle.act.specs.declared.Ending.the-variants.{Kept, Released, Marked}
+use Rattle.act.specs.declared.CycleEntry.{CycleEntry}
+use Rattle.act.specs.declared.Entry.{Entry}
+use Rattle.act.specs.declared.Entry.the-variants.{Idle, Grant, Cycle, Release}
+use Rattle.tally.specs.declared.Tally.{Tally}
+
+-- "a figure stops at 4,294,967,295"
+abbrev pub capped : ℕ → ℕ → ℕ
+capped a b = min (a + b) 4294967295
+
+abbrev pub larger : ℕ → ℕ → ℕ
+larger a b = max a b
+
+-- what a release adds to the longest hold: without an asked time nothing, which 0 is, as no hold is below it
+abbrev pub holdFigure : Hold → ℕ
+holdFigure Unasked = 0
+holdFigure (After time) = time
+
+abbrev pub endingFigure : Ending → ℕ
+endingFigure Kept = 0
+endingFigure (Released hold) = holdFigure hold
+endingFigure (Marked time) = time
+
+unfoldable pub addCycle : Tally → CycleEntry → Tally
+addCycle t e =
+    record {
+      grants = t .grants;
+      cycles = capped (t .cycles) 1;
+      bytes = capped (t .bytes) (e .bytes);
+      hold = larger (t .hold) (endingFigure (e .ending));
+    }
+
+abbrev pub addEntry : Tally → Entry → Tally
+addEntry t (Idle clock) = t
+addEntry t (Grant clock level) =
+    record { grants = capped (t .grants) 1; cycles = t .cycles; bytes = t .bytes; hold = t .hold }
+addEntry t (Cycle e) = addCycle t e
+addEntry t (Release clock level hold) =
+    record { grants = t .grants; cycles = t .cycles; bytes = t .bytes; hold = larger (t .hold) (holdFigure hold) }
