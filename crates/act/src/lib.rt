@@ -101,7 +101,13 @@ pub fn is_late(path: Path, asked: Asked, clock: u32, rest: Request) -> bool
     match asked {
         Asked::Never => false,
         Asked::At(t) => {
-            let next = cycle::transfer_time(path.width, path.port, path.time, rest.address, rest.left);
+            let next = cycle::transfer_time(
+                path.width,
+                path.port,
+                path.time,
+                rest.address,
+                rest.left,
+            );
             !sound::has_linger(path.options) | !sound::is_within(path.allowed, next, clock, t)
         }
     }

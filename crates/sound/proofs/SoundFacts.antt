@@ -26,8 +26,20 @@ use Rattle.channel.specs.Line.{isInactive, line}
 use Rattle.sound.specs.Rows.{isPresent, levelOf, isFair}
 use Rattle.sound.specs.Request.{requestVerdict}
 use Rattle.sound.specs.Sound.{
-  clockLimit, isGrantSound, ownerSound, isOwnerSound, isBlank, isRequestSound, areRequestsSound, isMarkSound, areMarksSound, isInTime, isAskedAt, askedSound,
-  isAskedSound, isSound,
+  clockLimit,
+  isGrantSound,
+  ownerSound,
+  isOwnerSound,
+  isBlank,
+  isRequestSound,
+  areRequestsSound,
+  isMarkSound,
+  areMarksSound,
+  isInTime,
+  isAskedAt,
+  askedSound,
+  isAskedSound,
+  isSound,
 }
 
 -- a level that the channel may be granted to
@@ -81,7 +93,7 @@ module _ (setup : Setup) (ch : Channel) where
   unfolding isGrantSound
   grant-by o g =
       let asks : (eqb o 15 || hasRequest (ch .left) o) ≡ true =
-        ⊎-elim (λ e. or-left _ _ (eq-eqb o 15 e)) (λ e. or-right (eqb o 15) _ e) (g .asking)
+      ⊎-elim (λ e. or-left _ _ (eq-eqb o 15 e)) (λ e. or-right (eqb o 15) _ e) (g .asking)
       in
       rw (le-leb o 15 (g .small), g .present, g .active, asks)
 

@@ -126,14 +126,21 @@ pub fn transfer_of(setup: Setup, level: u32, request: Request) -> u64
     let slaves = setup.slaves;
     let row = level_of(levels, level);
     let slave = slave_of(slaves, request);
-    cycle::transfer_time(row.width, slave.port, slave.time, request.address, request.left)
+    cycle::transfer_time(
+        row.width,
+        slave.port,
+        slave.time,
+        request.address,
+        request.left,
+    )
 }
 
 // A place without a request holds zeros.
 fn is_blank(request: Request) -> bool
     ensures { λ r. ⌜ r ≡ isBlank request ⌝ }
 {
-    (request.direction == 0) & ((request.space == 0) & ((request.address == 0) & (request.offset == 0)))
+    (request.direction == 0)
+        & ((request.space == 0) & ((request.address == 0) & (request.offset == 0)))
 }
 
 // An owner is present, has a request unless it is 15, and isn't inactive.
@@ -235,7 +242,12 @@ fn is_in_time(setup: Setup, owner: u32, request: Request, clock: u32, t: u32) ->
     if request.left == 0 {
         return t == clock;
     }
-    is_within(allowance_of(setup), transfer_of(setup, owner, request), clock, t)
+    is_within(
+        allowance_of(setup),
+        transfer_of(setup, owner, request),
+        clock,
+        t,
+    )
 }
 
 // An asked time of an owner: the line is active, it is not later than the clock, and the owner is in time.

@@ -44,7 +44,22 @@ use Rattle.act.specs.declared.Hold.{Hold}
 use Rattle.act.specs.declared.Ending.{Ending}
 use Rattle.act.specs.declared.Ending.the-variants.{Kept, Released, Marked}
 use Rattle.act.specs.Cycle.{
-  pathOf, cycleBytes, restAfter, noRequest, slotAfter, lateFor, isLate, isLeaving, releasedBy, endingOf, clocked, freed, markedAt, endedBy, movedOn, cycleTurn,
+  pathOf,
+  cycleBytes,
+  restAfter,
+  noRequest,
+  slotAfter,
+  lateFor,
+  isLate,
+  isLeaving,
+  releasedBy,
+  endingOf,
+  clocked,
+  freed,
+  markedAt,
+  endedBy,
+  movedOn,
+  cycleTurn,
 }
 use Rattle.act.specs.Turn.{arbitrationTime, granted, grantTurn, leaveTurn}
 use Rattle.step.specs.declared.Plan.{Plan}

@@ -20,6 +20,7 @@ ghost use Rattle.channel.specs.Channel.{requestOf, withRequest};
 ghost use Rattle.act.specs.Cycle.{pathOf, restAfter, clocked, cycleTurn};
 ghost use Rattle.act.specs.Turn.{arbitrationTime, granted, grantTurn};
 ghost use Rattle.step.specs.Plan.{ownerPlan, actPlan, readyVerdict, planOf};
+ghost use Rattle.step.specs.Run.{world, verdictOf, stoppedBy, runFrom, runOf};
 ghost use Rattle.step.specs.Step.{Ready, Able, doneBy, advancedBy, tallyBy, stepOf, movedSlave, movedMaster, slaveBy, masterBy, slaveAfter, masterAfter};
 
 // What a step is going to do.
@@ -124,7 +125,11 @@ fn rest_after(path: Path, request: Request) -> Request
     requires { ⌜ request .offset + request .left ≤ 65536 ⌝ }
     ensures { λ r. ⌜ r ≡ restAfter path request ⌝ }
 {
-    let bytes = cycle::cycle_length(cycle::narrow(path.width, path.port), request.address, request.left);
+    let bytes = cycle::cycle_length(
+        cycle::narrow(path.width, path.port),
+        request.address,
+        request.left,
+    );
     Request {
         direction: request.direction,
         space: request.space,
@@ -161,7 +166,11 @@ fn turn_cycle(path: Path, channel: Channel, owner: u8, request: Request) -> Turn
         clock: clock,
         level: owner,
         address: request.address,
-        bytes: cycle::cycle_length(cycle::narrow(path.width, path.port), request.address, request.left),
+        bytes: cycle::cycle_length(
+            cycle::narrow(path.width, path.port),
+            request.address,
+            request.left,
+        ),
         direction: request.direction,
         master: cycle::master_lane(path.width, request.address),
         slave: cycle::slave_lane(path.port, request.address),
@@ -232,7 +241,11 @@ fn carry(path: Path, request: Request, slave: &mut [u8], master: &mut [u8])
     ensures { λ r. ⌜ now (slave .exit) ≡ movedSlave path request (now (slave .entry)) (now (master .entry)) ⌝ }
     ensures { λ r. ⌜ now (master .exit) ≡ movedMaster path request (now (slave .entry)) (now (master .entry)) ⌝ }
 {
-    let bytes = cycle::cycle_length(cycle::narrow(path.width, path.port), request.address, request.left) as usize;
+    let bytes = cycle::cycle_length(
+        cycle::narrow(path.width, path.port),
+        request.address,
+        request.left,
+    ) as usize;
     let place = path.start + (request.address - path.base) as usize;
     let offset = request.offset as usize;
     if request.direction == 0 {
@@ -255,7 +268,13 @@ fn finished(turned: Turned) -> Advanced
 }
 
 // One cycle of the owner's request: the bytes are moved, the request goes on, and the line rule follows.
-fn cycle_step(setup: Setup, channel: Channel, owner: u8, slave: &mut [u8], master: &mut [u8]) -> Advanced
+fn cycle_step(
+    setup: Setup,
+    channel: Channel,
+    owner: u8,
+    slave: &mut [u8],
+    master: &mut [u8],
+) -> Advanced
     requires { ⌜ Able (pathOf setup owner (requestOf channel owner)) channel (requestOf channel owner) (length (now slave)) (length (now master)) ⌝ }
     ensures { λ r. ⌜ r ≡ advancedBy setup channel (Plan.Cycle owner) ⌝ }
     ensures { λ r. ⌜ now (slave .exit) ≡ slaveBy setup channel (Plan.Cycle owner) (now (slave .entry)) (now (master .entry)) ⌝ }
@@ -301,7 +320,13 @@ fn tally_by(tally: Tally, answer: StepAnswer) -> Tally
 }
 
 // One step. A refused step gives back the channel and the tally that it got and writes to no store.
-pub fn step(setup: Setup, channel: Channel, tally: Tally, slave: &mut [u8], master: &mut [u8]) -> Stepped
+pub fn step(
+    setup: Setup,
+    channel: Channel,
+    tally: Tally,
+    slave: &mut [u8],
+    master: &mut [u8],
+) -> Stepped
     ensures { λ r. ⌜ r ≡ stepOf setup channel tally (length (now (slave .entry))) (length (now (master .entry))) ⌝ }
     ensures { λ r. ⌜ now (slave .exit) ≡ slaveAfter setup channel (now (slave .entry)) (now (master .entry)) ⌝ }
     ensures { λ r. ⌜ now (master .exit) ≡ masterAfter setup channel (now (slave .entry)) (now (master .entry)) ⌝ }
@@ -323,6 +348,99 @@ pub fn step(setup: Setup, channel: Channel, tally: Tally, slave: &mut [u8], mast
                 tally: figures,
                 answer: answer,
             }
+        }
+    }
+}
+
+fn verdict_of(answer: StepAnswer) -> Verdict
+    ensures { λ r. ⌜ r ≡ verdictOf answer ⌝ }
+{
+    match answer {
+        StepAnswer::Done(_) => Verdict::Accepted,
+        StepAnswer::Refused(why) => Verdict::Refused(why),
+    }
+}
+
+// A run that stops before a refused step.
+fn stopped(channel: Channel, tally: Tally, done: u32, answer: StepAnswer) -> Ran
+    ensures { λ r. ⌜ r ≡ stoppedBy channel tally done answer ⌝ }
+{
+    let verdict = verdict_of(answer);
+    Ran {
+        channel: channel,
+        tally: tally,
+        steps: done,
+        verdict: verdict,
+    }
+}
+
+// Up to `budget` steps of a sound channel over stores of the right lengths. Every step keeps the channel sound, so that
+// nothing is tested again.
+fn run_steps(
+    setup: Setup,
+    channel: Channel,
+    tally: Tally,
+    slave: &mut [u8],
+    master: &mut [u8],
+    budget: u32,
+) -> Ran
+    requires { ⌜ Ready setup channel (length (now slave)) (length (now master)) ⌝ }
+    ensures { λ r. ⌜ r ≡ runFrom setup budget 0 (world channel tally (now (slave .entry)) (now (master .entry))) .result ⌝ }
+    ensures { λ r. ⌜ now (slave .exit) ≡ runFrom setup budget 0 (world channel tally (now (slave .entry)) (now (master .entry))) .slave ⌝ }
+    ensures { λ r. ⌜ now (master .exit) ≡ runFrom setup budget 0 (world channel tally (now (slave .entry)) (now (master .entry))) .master ⌝ }
+{
+    let mut current = channel;
+    let mut figures = tally;
+    let mut done: u32 = 0;
+    while done < budget {
+        let next = advance(setup, current, slave, master);
+        let answer = next.answer;
+        let StepAnswer::Done(entry) = answer else {
+            return stopped(current, figures, done, answer);
+        };
+        figures = tally::add_entry(figures, entry);
+        current = next.channel;
+        done += 1;
+    }
+    Ran {
+        channel: current,
+        tally: figures,
+        steps: done,
+        verdict: Verdict::Accepted,
+    }
+}
+
+// Runs up to `budget` steps: refusals 9, 8 and 7, in that order; it stops before a step that meets 6.
+pub fn run(
+    setup: Setup,
+    channel: Channel,
+    tally: Tally,
+    slave: &mut [u8],
+    master: &mut [u8],
+    budget: u32,
+) -> Ran
+    ensures { λ r. ⌜ r ≡ runOf setup budget (world channel tally (now (slave .entry)) (now (master .entry))) .result ⌝ }
+    ensures { λ r. ⌜ now (slave .exit) ≡ runOf setup budget (world channel tally (now (slave .entry)) (now (master .entry))) .slave ⌝ }
+    ensures { λ r. ⌜ now (master .exit) ≡ runOf setup budget (world channel tally (now (slave .entry)) (now (master .entry))) .master ⌝ }
+{
+    let verdict = ready_verdict(setup, channel, slave.len(), master.len());
+    match verdict {
+        Verdict::Refused(why) => Ran {
+            channel: channel,
+            tally: tally,
+            steps: 0,
+            verdict: Verdict::Refused(why),
+        },
+        Verdict::Accepted => {
+            if 65535 < budget {
+                return Ran {
+                    channel: channel,
+                    tally: tally,
+                    steps: 0,
+                    verdict: Verdict::Refused(Refusal::TooManySteps),
+                };
+            }
+            run_steps(setup, channel, tally, slave, master, budget)
         }
     }
 }

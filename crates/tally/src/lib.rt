@@ -18,7 +18,11 @@ fn add_capped(a: u32, b: u32) -> u32
     ensures { λ r. ⌜ r ≡ capped a b ⌝ }
 {
     let sum = a as u64 + b as u64;
-    if sum < 4294967295 { sum as u32 } else { 4294967295 }
+    if sum < 4294967295 {
+        sum as u32
+    } else {
+        4294967295
+    }
 }
 
 fn larger_of(a: u32, b: u32) -> u32

@@ -32,8 +32,7 @@ returns : tie.Need-returns
 returns c =
     let k = c .before .before .before .before .before .before .carry .ensures in
     let p = c .before .before .before .before .before .before .before .before .before .path-of .ensures in
-    let q = c .before .before .before .before .before .before .before .before .before .before .request-of .ensures in
-    (
+    let q = c .before .before .before .before .before .before .before .before .before .before .request-of .ensures in (
       rw (c .finished .ensures, c .before .turn-cycle .ensures, p, q),
       (rw (← q) (rw (← p) (k .0)), rw (← q) (rw (← p) (k .1))),
     )

@@ -1,0 +1,19 @@
+use borrow.Author.Needs.{needs}
+use mathlib.Core.Path.{_≡_, refl, sym, ap, _∙_}
+use Rattle.step.proofs.verdict_of.Statement.{statement}
+use Rattle.step.proofs.verdict_of.Tie as tie
+
+enum-told : tie.Need-enum-told
+enum-told c = search needs
+
+enum-known-answer : tie.Need-enum-known-answer
+enum-known-answer c = search needs
+
+returns : tie.Need-returns
+returns c = search needs
+
+returns-2 : tie.Need-returns-2
+returns-2 c = rw (c .before .answer .given .1)
+
+pub verdict-of-spec : {M : Type 1} → statement M
+verdict-of-spec = tie.close (tie.spec enum-told enum-known-answer returns returns-2)
