@@ -3,7 +3,8 @@
 
 run:
 	@rt check
-	@echo "Every layer that stands so far is proved. There is no program yet: the sheet runner comes with the job sheets."
+	@cat target/log/bursts.stdout
+	@echo "Every layer that stands so far is proved, and the program bursts wrote the lines above. The sheet runner comes with the job sheets."
 
 test:
 	@tests/gate

@@ -1,0 +1,131 @@
+// The examples of document 01, "Both sides of the line", that are run and compared: a burst that lingers, asked at its
+// grant, holds the channel for exactly 7,800 ns; and nothing wraps at the end of the address space.
+use channel::Channel;
+use frame::LevelRow;
+use frame::LevelRows;
+use frame::Setup;
+use frame::SlaveRow;
+use frame::SlaveRows;
+use libc::STDOUT_FILENO;
+use post::Order;
+use refusal::Verdict;
+use tally::Tally;
+
+fn levels() -> LevelRows {
+    let none = LevelRow {
+        level: 0,
+        width: 0,
+        options: 0,
+    };
+    let mut rows = [none; 16];
+    // a digitiser that bursts and lingers, a counter that waits, and the system master
+    rows[0] = LevelRow {
+        level: 3,
+        width: 4,
+        options: 5,
+    };
+    rows[1] = LevelRow {
+        level: 7,
+        width: 2,
+        options: 0,
+    };
+    rows[2] = LevelRow {
+        level: 15,
+        width: 4,
+        options: 0,
+    };
+    LevelRows {
+        rows: rows,
+        count: 3,
+    }
+}
+
+fn slaves(port: u32, time: u32) -> SlaveRows {
+    let none = SlaveRow {
+        space: 0,
+        base: 0,
+        length: 0,
+        port: 0,
+        time: 0,
+    };
+    let mut rows = [none; 16];
+    rows[0] = SlaveRow {
+        space: 1,
+        base: 4096,
+        length: 8192,
+        port: port,
+        time: time,
+    };
+    SlaveRows {
+        rows: rows,
+        count: 1,
+    }
+}
+
+fn frame_with(port: u32, time: u32) -> Setup {
+    let levels = levels();
+    let slaves = slaves(port, time);
+    Setup {
+        levels: levels,
+        slaves: slaves,
+        master: 4096,
+    }
+}
+
+fn order(level: u32, address: u32, length: u32) -> Order {
+    Order {
+        level: level,
+        direction: 1,
+        space: 1,
+        address: address,
+        length: length,
+        offset: 0,
+    }
+}
+
+// Both levels ask before the first arbitration: the burst is asked at its grant.
+fn contended(setup: Setup) -> Channel {
+    let fresh = channel::set_up(setup).channel;
+    let first = post::post(setup, fresh, order(3, 4096, 4096)).channel;
+    post::post(setup, first, order(7, 8192, 2)).channel
+}
+
+// The cycles that have run and the longest hold, after so many steps.
+fn show(setup: Setup, steps: u32) {
+    let mut slave = [0u8; 8192];
+    let mut master = [1u8; 4096];
+    let none = Tally {
+        grants: 0,
+        cycles: 0,
+        bytes: 0,
+        hold: 0,
+    };
+    let channel = contended(setup);
+    let ran = step::run(setup, channel, none, &mut slave, &mut master, steps);
+    let figures = ran.tally;
+    print_pair(figures.cycles, figures.hold);
+}
+
+fn print_pair(a: u32, b: u32) {
+    io::print_decimal(STDOUT_FILENO, a as u64);
+    io::write_all(STDOUT_FILENO, b" ");
+    io::print_decimal(STDOUT_FILENO, b as u64);
+    io::write_all(STDOUT_FILENO, b"\n");
+}
+
+fn main() {
+    // W and P of 4, 200 ns: the 39th transfer is the last
+    show(frame_with(4, 200), 39);
+    show(frame_with(4, 200), 40);
+    // 300 ns: the 26th
+    show(frame_with(4, 300), 26);
+    show(frame_with(4, 300), 27);
+    // P of 1, 1,950 ns: one transfer, of four cycles
+    show(frame_with(1, 1950), 4);
+    show(frame_with(1, 1950), 5);
+    // a post at address 4,294,967,295 with length 4,096: refusal 4
+    let setup = frame_with(4, 200);
+    let fresh = channel::set_up(setup).channel;
+    let verdict = post::post(setup, fresh, order(3, 4294967295, 4096)).verdict;
+    print_pair(refusal::verdict_number(verdict) as u32, 0);
+}
