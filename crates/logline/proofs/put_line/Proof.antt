@@ -1,0 +1,132 @@
+use Prim.Native.Nat.{ℕ, _+_, _-_, _*_, _≤_, _<_}
+use Rattle.logline.proofs.TextLaws.{digits-most, fields-more, fields-none, fields-most, write-more}
+use Rattle.logline.specs.Text.{digits, field, fieldsFrom, past, written}
+use borrow.Author.Needs.{needs}
+use borrow.Author.Tests.{le-leb, lt-leb}
+use lib.ListN.{getD}
+use lib.ListN.{length, set, length-set, length-append}
+use lib.Seq.{sets}
+use mathlib.Core.List.{List, [], _∷_, _++_}
+use mathlib.Core.Path.{_≡_, refl, sym, ap, _∙_}
+use native.Mathlib.Nat.{sub-zero}
+use native.Mathlib.Numerals.{add-one}
+use native.Mathlib.Omega.{arith}
+use Rattle.logline.proofs.put_line.Statement.{statement}
+use Rattle.logline.proofs.put_line.Tie as tie
+
+abbrev Inv-loop : tie.InvT-loop
+Inv-loop out₀ at letter count numbers next₀ i₀ out next i =
+    (i ≤ count)
+    × (next ≤ at + 1 + 11 * i)
+    × (sets out next (fieldsFrom numbers i (count - i) ++ (10 ∷ [])) ≡ sets out₀ (at + 1) (fieldsFrom numbers 0 count ++ (10 ∷ [])))
+    × (next + length (fieldsFrom numbers i (count - i)) ≡ at + 1 + length (fieldsFrom numbers 0 count))
+    × (length out ≡ length out₀)
+
+abbrev μ-loop : tie.MeasureT-loop
+μ-loop out₀ at letter count numbers next₀ i₀ out next i = count - i
+
+returns : tie.Need-returns Inv-loop μ-loop
+unfolding past written
+returns c =
+    let a = c .before .before .args in
+    let e = lt-leb (a .at + 96) (length (a .out .now)) (omega arith) in
+    (rw e, rw e)
+
+sub-if2 : tie.Need-sub-if2 Inv-loop μ-loop
+sub-if2 c = omega arith
+
+returns-2 : tie.Need-returns-2 Inv-loop μ-loop
+unfolding past written
+returns-2 c =
+    let a = c .before .before .before .args in
+    let e = lt-leb (a .at + 96) (length (a .out .now)) (omega arith) in
+    (rw e, rw e)
+
+slice-write-out : tie.Need-slice-write-out Inv-loop μ-loop
+slice-write-out c = omega arith
+
+add-next : tie.Need-add-next Inv-loop μ-loop
+add-next c = omega arith
+
+loop-holds : tie.Need-loop-holds Inv-loop μ-loop
+loop-holds c = (omega arith, omega arith, rw sub-zero, rw sub-zero, refl)
+
+mul-put-field : tie.Need-mul-put-field Inv-loop μ-loop
+mul-put-field c = search needs
+
+array-read-put-field : tie.Need-array-read-put-field Inv-loop μ-loop
+array-read-put-field c = omega arith
+
+put-field-requires : tie.Need-put-field-requires Inv-loop μ-loop
+put-field-requires c κs =
+    let l = c .before .before .loop in
+    omega (arith, l .inv .1, simp length-set at (l .inv .4))
+
+add-i : tie.Need-add-i Inv-loop μ-loop
+add-i c = omega arith
+
+loop-less : tie.Need-loop-less Inv-loop μ-loop
+loop-less c = omega arith
+
+loop-again : tie.Need-loop-again Inv-loop μ-loop
+loop-again c =
+    let l = c .before .before .before .before .before .loop in
+    let k = c .before .before .put-field .ensures in
+    let numbers = c .before .before .before .before .before .before .before .before .before .args .t4 in
+    let d = digits-most 9 (getD numbers (l .i) 0) in
+    let n = l .next + length (field (getD numbers (l .i) 0)) in
+    let e : l .next + 1 + length (digits 9 (getD numbers (l .i) 0)) ≡ n = omega arith in
+    let m = ap length (fields-more numbers (l .i) (c .before .before .before .before .before .before .before .before .before .args .count) (omega arith)) in (
+      omega arith,
+      omega (arith, k .0, d),
+      rw (k .1, k .0, e) (write-more numbers (l .i) _ (l .next) (l .out) _ (omega arith) (l .inv .2)),
+      omega (arith, k .0, m, length-append (field (getD numbers (l .i) 0)) (fieldsFrom numbers (l .i + 1) (c .before .before .before .before .before .before .before .before .before .args .count - (l .i + 1))), l .inv .3),
+      c .before .before .put-field .kept .0 ∙ l .inv .4,
+    )
+
+slice-write-out-2 : tie.Need-slice-write-out-2 Inv-loop μ-loop
+slice-write-out-2 c = let l = c .before .loop in omega (arith, simp length-set at (l .inv .4))
+
+add-result : tie.Need-add-result Inv-loop μ-loop
+add-result c = let l = c .before .loop in omega (arith, simp length-set at (l .inv .4))
+
+same-length : tie.Need-same-length Inv-loop μ-loop
+same-length c = let l = c .before .loop in simp length-set (simp length-set at (l .inv .4))
+
+returns-3 : tie.Need-returns-3 Inv-loop μ-loop
+unfolding past written
+returns-3 c =
+    let a = c .before .before .before .before .before .args in
+    let l = c .before .loop in
+    let e = le-leb (a .at + 96) (length (a .out .now)) (omega arith) in
+    let z = fields-none (a .t4) (l .i) (a .count) (omega arith) in
+    let s = length-append (fieldsFrom (a .t4) 0 (a .count)) (10 ∷ []) in (
+      rw e (omega (arith, s, l .inv .3, ap length z)),
+      rw e
+          (sym (ap (λ (t : List ℕ). sets (l .out) (l .next) (t ++ (10 ∷ []))) z)
+          ∙ l .inv .2
+          ∙ ap (λ (j : ℕ). sets (set (a .out .now) (a .at) (a .letter)) j (fieldsFrom (a .t4) 0 (a .count) ++ (10 ∷ []))) (add-one (a .at))),
+    )
+
+pub put-line-spec : {M : Type 1} → statement M
+put-line-spec =
+    tie.close
+    (tie.spec
+    Inv-loop
+    μ-loop
+    returns
+    sub-if2
+    returns-2
+    slice-write-out
+    add-next
+    loop-holds
+    mul-put-field
+    array-read-put-field
+    put-field-requires
+    add-i
+    loop-less
+    loop-again
+    slice-write-out-2
+    add-result
+    same-length
+    returns-3)
