@@ -1,0 +1,53 @@
+use Rattle.sheet.specs.Sheet.{event}
+use Rattle.sheet.specs.declared.Taken.{Taken}
+use borrow.Author.Needs.{needs}
+use borrow.Author.Tests.{eq-eqb, ne-eqb}
+use mathlib.Core.Path.{sym, ap, _∙_}
+use Rattle.sheet.proofs.judge_event.Statement.{statement}
+use Rattle.sheet.proofs.judge_event.Tie as tie
+
+number-between-requires : tie.Need-number-between-requires
+number-between-requires c κs = search needs
+
+enum-known-got : tie.Need-enum-known-got
+enum-known-got c = search needs
+
+enum-known-got-2 : tie.Need-enum-known-got-2
+enum-known-got-2 c = search needs
+
+judge-step-count-requires : tie.Need-judge-step-count-requires
+judge-step-count-requires c κs = search needs
+
+returns : tie.Need-returns
+unfolding event
+returns c = rw (
+  sym (c .before .before .before .before .before .number-between .ensures) ∙ c .before .before .before .got2 .given .1,
+  eq-eqb _ _ (c .before .if1 .taken),
+) (c .judge-step-count .ensures)
+
+numbers-at-requires : tie.Need-numbers-at-requires
+numbers-at-requires c κs = search needs
+
+returns-2 : tie.Need-returns-2
+unfolding event
+returns-2 c = rw (sym (c .before .before .before .number-between .ensures) ∙ c .before .got .given .1)
+
+returns-3 : tie.Need-returns-3
+unfolding event
+returns-3 c = rw (
+  sym (c .before .before .before .before .before .number-between .ensures) ∙ c .before .before .before .got2 .given .1,
+  ne-eqb _ _ (c .before .if1 .left),
+) (ap (λ (t : Taken). t .judged) (c .numbers-at .ensures))
+
+pub judge-event-spec : {M : Type 1} → statement M
+judge-event-spec =
+    tie.close
+    (tie.spec
+    number-between-requires
+    enum-known-got
+    enum-known-got-2
+    judge-step-count-requires
+    returns
+    numbers-at-requires
+    returns-2
+    returns-3)

@@ -1,0 +1,74 @@
+-- The loop's invariant: the events left to judge give the judgement of all.
+use Prim.Native.Nat.{suc, _-_}
+use Rattle.sheet.proofs.Laws.{events-on, events-fault}
+use Rattle.sheet.specs.Sheet.{events}
+use Rattle.sheet.specs.Judge.{source}
+use borrow.Author.Needs.{needs}
+use denote.Ref.{now}
+use mathlib.Core.Path.{_≡_, refl, sym, _∙_}
+use native.Mathlib.Omega.{arith}
+use Rattle.sheet.proofs.judge_events.Statement.{statement}
+use Rattle.sheet.proofs.judge_events.Tie as tie
+
+abbrev Inv-loop : tie.InvT-loop
+Inv-loop bytes list listed n at left₀ place₀ left place = events (source listed bytes list) left place ≡ events
+    (source listed bytes list) n at
+
+abbrev μ-loop : tie.MeasureT-loop
+μ-loop bytes list listed n at left₀ place₀ left place = left
+
+loop-holds : tie.Need-loop-holds Inv-loop μ-loop
+loop-holds c = refl
+
+judge-event-requires : tie.Need-judge-event-requires Inv-loop μ-loop
+judge-event-requires c κs = tt
+
+enum-known-judged : tie.Need-enum-known-judged Inv-loop μ-loop
+enum-known-judged c = search needs
+
+enum-told : tie.Need-enum-told Inv-loop μ-loop
+enum-told c = search needs
+
+returns : tie.Need-returns Inv-loop μ-loop
+returns c =
+    let a = c .before .before .before .before .before .before .before .args in
+    let l = c .before .before .before .before .loop in
+    let src = (source (a .listed) (now (a .bytes)) (now (a .list))) in
+    let more : l .left ≡ suc (l .left - 1) = omega arith in
+    c .enum-told .given .1
+    ∙ sym (events-fault src (l .place) more (sym (c .before .before .judge-event .ensures) ∙ c .enum-told .given .1)) ∙ l .inv
+
+sub-left : tie.Need-sub-left Inv-loop μ-loop
+sub-left c = omega arith
+
+loop-less : tie.Need-loop-less Inv-loop μ-loop
+loop-less c = omega arith
+
+loop-again : tie.Need-loop-again Inv-loop μ-loop
+loop-again c =
+    let a = c .before .before .before .before .before .before .before .before .args in
+    let l = c .before .before .before .before .before .loop in
+    let src = (source (a .listed) (now (a .bytes)) (now (a .list))) in
+    let more : l .left ≡ suc (l .left - 1) = omega arith in
+    sym (events-on src (l .place) more (sym (c .before .before .before .judge-event .ensures) ∙ c .before .judged .given .1)) ∙ l .inv
+
+returns-2 : tie.Need-returns-2 Inv-loop μ-loop
+returns-2 c =
+    let none : c .before .loop .left ≡ 0 = omega arith in
+    rw none at (c .before .loop .inv)
+
+pub judge-events-spec : {M : Type 1} → statement M
+judge-events-spec =
+    tie.close
+    (tie.spec
+    Inv-loop
+    μ-loop
+    loop-holds
+    judge-event-requires
+    enum-known-judged
+    enum-told
+    returns
+    sub-left
+    loop-less
+    loop-again
+    returns-2)

@@ -1,0 +1,120 @@
+-- The loop's invariant: the rows left to judge, with those before them in the table, give the judgement of all.
+use Prim.Native.Nat.{suc, _+_, _-_, _≤_}
+use Rattle.frame.specs.declared.SlaveRows.{SlaveRows}
+use Rattle.sheet.proofs.Laws.{rows-on, rows-not, rows-fault}
+use Rattle.sheet.specs.Sheet.{slaves, rowsFrom, withSlave}
+use Rattle.sheet.specs.Judge.{source}
+use Rattle.sheet.specs.declared.SlaveRead.{SlaveRead}
+use borrow.Author.Needs.{needs}
+use borrow.Author.Tests.{not-true, not-false}
+use denote.Ref.{now}
+use lib.ListN.{length, length-set}
+use mathlib.Core.Path.{_≡_, refl, sym, ap, _∙_}
+use native.Mathlib.Nat.{sub-zero}
+use native.Mathlib.Omega.{arith}
+use Rattle.sheet.proofs.judge_slave_rows.Statement.{statement}
+use Rattle.sheet.proofs.judge_slave_rows.Tie as tie
+
+abbrev Inv-loop : tie.InvT-loop
+Inv-loop bytes list listed count at rows₀ i₀ place₀ rows i place =
+    (i ≤ count)
+    × (rowsFrom slaves (source listed bytes list) (count - i) i (record { rows = rows; count = count }) place
+    ≡ rowsFrom slaves (source listed bytes list) count 0 (slaves .none count) at)
+    × (length rows ≡ 16)
+
+abbrev μ-loop : tie.MeasureT-loop
+μ-loop bytes list listed count at rows₀ i₀ place₀ rows i place = count - i
+
+loop-holds : tie.Need-loop-holds Inv-loop μ-loop
+loop-holds c = (omega arith, rw sub-zero, refl)
+
+slave-at-requires : tie.Need-slave-at-requires Inv-loop μ-loop
+slave-at-requires c κs = tt
+
+enum-known-judged : tie.Need-enum-known-judged Inv-loop μ-loop
+enum-known-judged c = search needs
+
+enum-told : tie.Need-enum-told Inv-loop μ-loop
+enum-told c = search needs
+
+returns : tie.Need-returns Inv-loop μ-loop
+returns c =
+    let a = c .before .before .before .before .before .before .before .args in
+    let l = c .before .before .before .before .loop in
+    let src = (source (a .listed) (now (a .bytes)) (now (a .list))) in
+    let more : a .count - l .i ≡ suc (a .count - (l .i + 1)) = omega arith in
+    let table : SlaveRows = record { rows = l .rows; count = a .count } in
+    c .enum-told .given .1
+    ∙ sym (rows-fault src (l .place) more slaves (l .i) table
+    (sym (ap (λ (r : SlaveRead). r .judged) (c .before .before .slave-at .ensures)) ∙ c .enum-told .given .1)) ∙ l .inv .1
+
+mul-rows : tie.Need-mul-rows Inv-loop μ-loop
+mul-rows c = omega arith
+
+array-set-from-rows : tie.Need-array-set-from-rows Inv-loop μ-loop
+array-set-from-rows c = omega arith
+
+slave-row-fits-requires : tie.Need-slave-row-fits-requires Inv-loop μ-loop
+slave-row-fits-requires c κs = tt
+
+returns-2 : tie.Need-returns-2 Inv-loop μ-loop
+returns-2 c =
+    let a = c .before .before .before .before .before .before .before .before .before .before .before .args in
+    let l = c .before .before .before .before .before .before .before .before .loop in
+    let src = (source (a .listed) (now (a .bytes)) (now (a .list))) in
+    let more : a .count - l .i ≡ suc (a .count - (l .i + 1)) = omega arith in
+    let table : SlaveRows = record { rows = l .rows; count = a .count } in
+    let read = sym (ap (λ (r : SlaveRead). r .judged) (c .before .before .before .before .before .before .slave-at .ensures))
+    ∙ c .before .before .before .before .judged .given .1 in
+    let put = ap (λ (r : SlaveRead). withSlave table (l .i) (r .row))
+    (c .before .before .before .before .before .before .slave-at .ensures) in
+    sym (rows-not src (l .place) more slaves (l .i) table read put
+    (sym (c .before .slave-row-fits .ensures) ∙ not-true _ (c .if1 .taken))) ∙ l .inv .1
+
+add-i : tie.Need-add-i Inv-loop μ-loop
+add-i c = omega arith
+
+loop-less : tie.Need-loop-less Inv-loop μ-loop
+loop-less c = omega arith
+
+loop-again : tie.Need-loop-again Inv-loop μ-loop
+loop-again c =
+    let a = c .before .before .before .before .before .before .before .before .before .before .before .args in
+    let l = c .before .before .before .before .before .before .before .before .loop in
+    let src = (source (a .listed) (now (a .bytes)) (now (a .list))) in
+    let more : a .count - l .i ≡ suc (a .count - (l .i + 1)) = omega arith in
+    let table : SlaveRows = record { rows = l .rows; count = a .count } in
+    let read = sym (ap (λ (r : SlaveRead). r .judged) (c .before .before .before .before .before .before .slave-at .ensures))
+    ∙ c .before .before .before .before .judged .given .1 in
+    let put = ap (λ (r : SlaveRead). withSlave table (l .i) (r .row))
+    (c .before .before .before .before .before .before .slave-at .ensures) in (
+      omega arith,
+      sym (rows-on src (l .place) more slaves (l .i) table read put
+          (sym (c .before .slave-row-fits .ensures) ∙ not-false _ (c .if1 .left))) ∙ l .inv .1,
+      simp length-set (l .inv .2),
+    )
+
+returns-3 : tie.Need-returns-3 Inv-loop μ-loop
+returns-3 c =
+    let none : c .before .before .before .before .args .count - c .before .loop .i ≡ 0 = omega arith in
+    rw none at (c .before .loop .inv .1)
+
+pub judge-slave-rows-spec : {M : Type 1} → statement M
+judge-slave-rows-spec =
+    tie.close
+    (tie.spec
+    Inv-loop
+    μ-loop
+    loop-holds
+    slave-at-requires
+    enum-known-judged
+    enum-told
+    returns
+    mul-rows
+    array-set-from-rows
+    slave-row-fits-requires
+    returns-2
+    add-i
+    loop-less
+    loop-again
+    returns-3)

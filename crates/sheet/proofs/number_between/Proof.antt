@@ -1,0 +1,31 @@
+use Rattle.sheet.specs.Sheet.{between}
+use borrow.Author.Needs.{needs}
+use mathlib.Core.Path.{sym, _∙_}
+use Rattle.sheet.proofs.number_between.Statement.{statement}
+use Rattle.sheet.proofs.number_between.Tie as tie
+
+number-at-requires : tie.Need-number-at-requires
+number-at-requires c κs = search needs
+
+enum-known-got : tie.Need-enum-known-got
+enum-known-got c = search needs
+
+enum-known-got-2 : tie.Need-enum-known-got-2
+enum-known-got-2 c = search needs
+
+returns : tie.Need-returns
+unfolding between
+returns c = rw (sym (c .before .before .before .before .number-at .ensures) ∙ c .before .before .got2 .given .1, c .if1 .taken)
+
+returns-2 : tie.Need-returns-2
+unfolding between
+returns-2 c = rw (sym (c .before .before .before .number-at .ensures) ∙ c .before .got .given .1)
+
+returns-3 : tie.Need-returns-3
+unfolding between
+returns-3 c = rw (sym (c .before .before .before .before .number-at .ensures) ∙ c .before .before .got2 .given .1, c .if1 .left)
+
+pub number-between-spec : {M : Type 1} → statement M
+number-between-spec =
+    tie.close
+    (tie.spec number-at-requires enum-known-got enum-known-got-2 returns returns-2 returns-3)

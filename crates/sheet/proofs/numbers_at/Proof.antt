@@ -1,0 +1,96 @@
+-- The loop's invariant: what is left to read, behind what was kept, is what the whole gives.
+use Prim.Native.Nat.{suc, _+_, _-_, _≤_}
+use Rattle.sheet.proofs.Laws.{past-on, past-fault, stored-on, numbers-end, taken-is}
+use Rattle.sheet.specs.Sheet.{past, numbers}
+use Rattle.sheet.specs.Judge.{source, padded}
+use borrow.Author.Needs.{needs}
+use denote.Ref.{now}
+use lib.ListN.{length, length-set}
+use lib.Seq.{sets}
+use mathlib.Core.Path.{_≡_, refl, sym, ap, _∙_}
+use native.Mathlib.Nat.{sub-zero}
+use native.Mathlib.Omega.{arith}
+use Rattle.sheet.proofs.numbers_at.Statement.{statement}
+use Rattle.sheet.proofs.numbers_at.Tie as tie
+
+abbrev Inv-loop : tie.InvT-loop
+Inv-loop bytes list listed n at values₀ i₀ place₀ values i place =
+    (i ≤ n) × (past (source listed bytes list) (n - i) place ≡ past (source listed bytes list) n at)
+    × (sets values i (numbers (source listed bytes list) (n - i) place) ≡ padded (numbers (source listed bytes list) n at))
+    × (length values ≡ 6)
+
+abbrev μ-loop : tie.MeasureT-loop
+μ-loop bytes list listed n at values₀ i₀ place₀ values i place = n - i
+
+loop-holds : tie.Need-loop-holds Inv-loop μ-loop
+loop-holds c = (omega arith, rw sub-zero, rw sub-zero, refl)
+
+number-at-requires : tie.Need-number-at-requires Inv-loop μ-loop
+number-at-requires c κs = tt
+
+enum-known-got : tie.Need-enum-known-got Inv-loop μ-loop
+enum-known-got c = search needs
+
+mul-values : tie.Need-mul-values Inv-loop μ-loop
+mul-values c = omega arith
+
+array-write-values : tie.Need-array-write-values Inv-loop μ-loop
+array-write-values c = omega arith
+
+add-i : tie.Need-add-i Inv-loop μ-loop
+add-i c = omega arith
+
+loop-less : tie.Need-loop-less Inv-loop μ-loop
+loop-less c = omega arith
+
+loop-again : tie.Need-loop-again Inv-loop μ-loop
+loop-again c =
+    let a = c .before .before .before .before .before .before .before .before .args in
+    let l = c .before .before .before .before .before .loop in
+    let src = (source (a .listed) (now (a .bytes)) (now (a .list))) in
+    let more : a .n - l .i ≡ suc (a .n - (l .i + 1)) = omega arith in
+    let r = sym (c .before .before .before .number-at .ensures) ∙ c .before .got .given .1 in (
+      omega arith,
+      sym (past-on src (l .place) more r) ∙ l .inv .1,
+      stored-on src (l .place) more (l .values) (l .i) r ∙ l .inv .2,
+      simp length-set (l .inv .3),
+    )
+
+enum-known-got-2 : tie.Need-enum-known-got-2 Inv-loop μ-loop
+enum-known-got-2 c = search needs
+
+returns : tie.Need-returns Inv-loop μ-loop
+returns c =
+    let a = c .before .before .before .before .before .before .before .before .args in
+    let l = c .before .before .before .before .before .loop in
+    let src = (source (a .listed) (now (a .bytes)) (now (a .list))) in
+    let more : a .n - l .i ≡ suc (a .n - (l .i + 1)) = omega arith in
+    let r = sym (c .before .before .before .number-at .ensures) ∙ c .before .got2 .given .1 in
+    taken-is src (a .at) (a .n)
+    (sym (ap (sets (l .values) (l .i)) (numbers-end src (a .n - l .i) (l .place) r)) ∙ l .inv .2)
+    (sym (past-fault src (l .place) more r) ∙ l .inv .1)
+
+returns-2 : tie.Need-returns-2 Inv-loop μ-loop
+returns-2 c =
+    let a = c .before .before .before .before .args in
+    let src = (source (a .listed) (now (a .bytes)) (now (a .list))) in
+    let none : a .n - c .before .loop .i ≡ 0 = omega arith in
+    taken-is src (a .at) (a .n) (rw none at (c .before .loop .inv .2)) (rw none at (c .before .loop .inv .1))
+
+pub numbers-at-spec : {M : Type 1} → statement M
+numbers-at-spec =
+    tie.close
+    (tie.spec
+    Inv-loop
+    μ-loop
+    loop-holds
+    number-at-requires
+    enum-known-got
+    mul-values
+    array-write-values
+    add-i
+    loop-less
+    loop-again
+    enum-known-got-2
+    returns
+    returns-2)

@@ -1,0 +1,112 @@
+-- The loop's invariant: the bytes of the numbers left, written behind those that were, give the slice at the end.
+use Prim.Native.Nat.{_+_, _-_, _≤_, _<_}
+use Rattle.number.proofs.Laws.{written}
+use Rattle.sheet.proofs.Answers.{bytes-none, size-on, written-on, past-is, no-room}
+use Rattle.sheet.specs.Sheet.{allBytes}
+use borrow.Author.Needs.{needs}
+use denote.Ref.{now}
+use lib.ListN.{length, drop, getD}
+use lib.Seq.{sets}
+use mathlib.Core.Path.{_≡_, refl, sym, ap, _∙_}
+use mathlib.Core.Path.{_≡_}
+use native.Mathlib.Omega.{arith}
+use Rattle.sheet.proofs.write_numbers.Statement.{statement}
+use Rattle.sheet.proofs.write_numbers.Tie as tie
+
+abbrev Inv-loop : tie.InvT-loop
+Inv-loop list out₀ i₀ at₀ out i at =
+    (i ≤ length list) × (at + length (allBytes (drop i list)) ≡ length (allBytes list))
+    × (sets out at (allBytes (drop i list)) ≡ sets out₀ 0 (allBytes list)) × (length out ≡ length out₀)
+
+abbrev μ-loop : tie.MeasureT-loop
+μ-loop list out₀ i₀ at₀ out i at = length list - i
+
+loop-holds : tie.Need-loop-holds Inv-loop μ-loop
+loop-holds c = (omega arith, omega arith, refl, refl)
+
+mul-write-number : tie.Need-mul-write-number Inv-loop μ-loop
+mul-write-number c = search needs
+
+shared-slice-read-write-number : tie.Need-shared-slice-read-write-number Inv-loop μ-loop
+shared-slice-read-write-number c = omega arith
+
+write-number-requires : tie.Need-write-number-requires Inv-loop μ-loop
+write-number-requires c κs = tt
+
+enum-known-written : tie.Need-enum-known-written Inv-loop μ-loop
+enum-known-written c = search needs
+
+add-i : tie.Need-add-i Inv-loop μ-loop
+add-i c = omega arith
+
+loop-less : tie.Need-loop-less Inv-loop μ-loop
+loop-less c = omega arith
+
+loop-again : tie.Need-loop-again Inv-loop μ-loop
+loop-again c =
+    let a = c .before .before .before .before .before .before .before .before .before .before .before .before .args in
+    let l = c .before .before .before .before .before .before .before .before .before .loop in
+    let list = now (a .list) in
+    let h : l .i < length list = omega arith in
+    let v = getD list (l .i) 0 in
+    let w = written (l .out) (l .at) v (omega (arith, size-on list (l .i) h)) in
+    let next = past-is (sym (c .before .written .given .1) ∙ c .before .before .before .before .before .write-number .ensures .0
+    ∙ w .0) in (
+      omega arith,
+      omega (arith, next, size-on list (l .i) h),
+      rw (c .before .before .before .before .before .write-number .ensures .1, w .1, next) (written-on list (l .i) (l .at) (l .out) h)
+          ∙ l .inv .2,
+      c .before .before .before .before .before .write-number .kept .0 ∙ l .inv .3,
+    )
+
+enum-told : tie.Need-enum-told Inv-loop μ-loop
+enum-told c = search needs
+
+same-length : tie.Need-same-length Inv-loop μ-loop
+same-length c =
+    let a = c .before .before .before .before .before .before .before .before .before .before .before .args in
+    let l = c .before .before .before .before .before .before .before .before .loop in
+    let list = now (a .list) in
+    let h : l .i < length list = omega arith in
+    let v = getD list (l .i) 0 in
+    let w = written (l .out) (l .at) v (omega (arith, size-on list (l .i) h)) in
+    no-room (sym (c .enum-told .given .1) ∙ c .before .before .before .before .write-number .ensures .0 ∙ w .0)
+
+returns : tie.Need-returns Inv-loop μ-loop
+returns c =
+    let a = c .before .before .before .before .before .before .before .before .before .before .before .args in
+    let l = c .before .before .before .before .before .before .before .before .loop in
+    let list = now (a .list) in
+    let h : l .i < length list = omega arith in
+    let v = getD list (l .i) 0 in
+    let w = written (l .out) (l .at) v (omega (arith, size-on list (l .i) h)) in
+    no-room (sym (c .enum-told .given .1) ∙ c .before .before .before .before .write-number .ensures .0 ∙ w .0)
+
+same-length-2 : tie.Need-same-length-2 Inv-loop μ-loop
+same-length-2 c = c .before .loop .inv .3
+
+returns-2 : tie.Need-returns-2 Inv-loop μ-loop
+returns-2 c =
+    sym (ap (sets (c .before .loop .out) (c .before .loop .at))
+    (bytes-none (now (c .before .before .before .before .args .list)) (c .before .loop .i) (c .loop-test .left)))
+    ∙ c .before .loop .inv .2
+
+pub write-numbers-spec : {M : Type 1} → statement M
+write-numbers-spec =
+    tie.close
+    (tie.spec
+    Inv-loop
+    μ-loop
+    loop-holds
+    mul-write-number
+    shared-slice-read-write-number
+    write-number-requires
+    enum-known-written
+    add-i
+    loop-less
+    loop-again
+    enum-told
+    same-length
+    returns
+    same-length-2
+    returns-2)

@@ -1,0 +1,39 @@
+use borrow.Author.Needs.{needs}
+use lib.Seq.{length-take-le}
+use mathlib.Core.Path.{_≡_, refl, sym, ap, _∙_}
+use native.Mathlib.Omega.{arith}
+use Rattle.sheetrun.proofs.run_sized.Statement.{statement}
+use Rattle.sheetrun.proofs.run_sized.Tie as tie
+
+returns : tie.Need-returns
+returns c = search needs
+
+slice-aggregate-run-sheet : tie.Need-slice-aggregate-run-sheet
+slice-aggregate-run-sheet c = let a = c .before .before .before .before .before .before .args in sym (length-take-le (a .size) (a .input .now) (omega arith))
+
+run-sheet-requires : tie.Need-run-sheet-requires
+run-sheet-requires c κs = search needs
+
+same-length : tie.Need-same-length
+same-length c = search needs
+
+same-length-2 : tie.Need-same-length-2
+same-length-2 c = search needs
+
+same-length-3 : tie.Need-same-length-3
+same-length-3 c = search needs
+
+returns-2 : tie.Need-returns-2
+returns-2 c = search needs
+
+pub run-sized-spec : {M : Type 1} → statement M
+run-sized-spec =
+    tie.close
+    (tie.spec
+    returns
+    slice-aggregate-run-sheet
+    run-sheet-requires
+    same-length
+    same-length-2
+    same-length-3
+    returns-2)
