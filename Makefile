@@ -1,13 +1,20 @@
-# make run: the main job. make test: the whole gate.
-.PHONY: run test clean
+# make run: the main job. make test: the whole gate. make compare: sheetrun against the second program, on more sheets.
+.PHONY: run test compare prove clean
+SHEET = examples/whole.sheet
+N = 100000
+SEED = 1
 
-run:
-	@rt check
-	@cat target/log/bursts.stdout
-	@echo "Every layer that stands so far is proved, and the program bursts wrote the lines above. The sheet runner comes with the job sheets."
+run: prove
+	@tests/run-program target/bin/sheetrun <$(SHEET)
+
+prove:
+	@mkdir -p target && { rt check >target/said 2>&1 || { cat target/said; false; }; }
 
 test:
 	@tests/gate
+
+compare: prove
+	@tests/compare $(N) $(SEED)
 
 clean:
 	rm -rf target

@@ -22,7 +22,21 @@ use Rattle.sheet.specs.declared.Judged.the-variants.{Good, Fault}
 use Rattle.sheet.specs.declared.Taken.{Taken}
 use Rattle.sheet.specs.declared.LevelRead.{LevelRead}
 use Rattle.sheet.specs.declared.SlaveRead.{SlaveRead}
-use Rattle.sheet.specs.Sheet.{Source, listAt, Rows, inRange, between, past, followed, numbers, rowsFrom, event, events, levelOf, slaveOf}
+use Rattle.sheet.specs.Sheet.{
+  Source,
+  listAt,
+  Rows,
+  inRange,
+  between,
+  past,
+  followed,
+  numbers,
+  rowsFrom,
+  event,
+  events,
+  levelOf,
+  slaveOf,
+}
 use Rattle.sheet.specs.Judge.{padded, taken, levelRead, slaveRead}
 
 module _ (src : Source) (at : ℕ) {left k : ℕ} (more : left ≡ suc k) where

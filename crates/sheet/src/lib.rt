@@ -29,19 +29,20 @@ pub enum SheetAnswer {
 }
 
 // Up to six numbers in a row, as far as they can be read; the places behind them hold 0.
-pub struct Taken {
-    pub values: [u32; 6],
-    pub judged: Judged,
+struct Taken {
+    values: [u32; 6],
+    judged: Judged,
 }
 
-pub struct LevelRead {
-    pub row: LevelRow,
-    pub judged: Judged,
+// A row as far as its numbers can be read, and how they were read.
+struct LevelRead {
+    row: LevelRow,
+    judged: Judged,
 }
 
-pub struct SlaveRead {
-    pub row: SlaveRow,
-    pub judged: Judged,
+struct SlaveRead {
+    row: SlaveRow,
+    judged: Judged,
 }
 
 // The number at a place of a sheet in bytes, or at an index of one in a list.
@@ -375,6 +376,7 @@ pub fn read_sheet(bytes: &[u8], out: &mut [u32]) -> SheetAnswer
     ensures { λ r. ⌜ r ≡ readAnswer (now (bytes .entry)) (length (now (out .entry))) ⌝ }
     ensures { λ _. ⌜ now (out .exit) ≡ readStored (now (bytes .entry)) (now (out .entry)) ⌝ }
 {
+    // the judge is told to read the bytes, and looks at no list
     let no_list = [0u32; 1];
     let judged = judge(bytes, &no_list, false);
     match judged {
@@ -430,6 +432,7 @@ pub fn write_sheet(list: &[u32], out: &mut [u8]) -> SheetAnswer
     ensures { λ r. ⌜ r ≡ writeAnswer (now (list .entry)) (length (now (out .entry))) ⌝ }
     ensures { λ _. ⌜ now (out .exit) ≡ writeStored (now (list .entry)) (now (out .entry)) ⌝ }
 {
+    // the judge is told to read the list, and looks at no bytes
     let no_bytes = [0u8; 1];
     let judged = judge(&no_bytes, list, true);
     match judged {

@@ -18,7 +18,7 @@ use Rattle.sheet.specs.Sheet.{listAt, between, past, stepCount, event, events, 
 use Rattle.sheet.proofs.Laws.{in-range, stands}
 use Rattle.sheet.proofs.Parts.{with-good, then-good}
 use Rattle.sheet.proofs.RoundTrip.{list-whole}
-use Rattle.sheetlist.specs.declared.Event.the-variants.{Steps, Posts}
+use Rattle.sheetlist.specs.declared.Event.the-variants.{Steps, Post}
 use Rattle.sheetlist.specs.Held.{isSteps, postAt, eventsFrom, eventCount, eventAt, firstEvent, nextEvent, eventFrom, eventOf}
 use Rattle.sheetlist.proofs.Framed.{past-listed, events-placed}
 
@@ -102,7 +102,8 @@ module _ (list : List ℕ) where
       let r = events-good n (suc i) m (omega arith) (rw (g .next-is) at (w .2)) in
       record {
         ends = r .ends;
-        each = λ j l h. ⊎-elim (λ q. rw (← q) (record { inside = g .inside; kind = g .kind; next-is = refl; steps = g .steps })) (λ k. r .each j k h) (eq-or-lt-of-le l);
+        each = λ j l h. ⊎-elim (λ q. rw (← q) (record { inside = g .inside; kind = g .kind; next-is = refl; steps = g .steps }))
+            (λ k. r .each j k h) (eq-or-lt-of-le l);
       }
 
   events-all : {end : ℕ} → sheet (listAt list) (length list) ≡ Good end → Events-good 0 (eventCount list) (length list)
@@ -121,7 +122,8 @@ module _ (list : List ℕ) where
   pub few-events : {end : ℕ} → sheet (listAt list) (length list) ≡ Good end → eventCount list ≤ 1024
   unfolding countedEvents eventCount
   few-events g =
-      let w = with-good (between (listAt list) 0 1024 BadEvents (eventsFrom list)) (λ n next. events (listAt list) n next) (events-placed list g) in
+      let w = with-good (between (listAt list) 0 1024 BadEvents (eventsFrom list)) (λ n next. events (listAt list) n next)
+      (events-placed list g) in
       let r = in-range (listAt list) 0 1024 BadEvents (eventsFrom list) (w .2) in
       omega (arith, r .most, stands list (eventsFrom list) (r .stands) .value)
 
@@ -150,7 +152,7 @@ module _ (list : List ℕ) where
       let q : Steps (getD list (at + 1) 0) ≡ Steps n = rw t at e in
       let same : getD list (at + 1) 0 ≡ n = cc in
       rw same at (good .steps t))
-      (λ f. let q : Posts (postAt list at) ≡ Steps n = rw f at e in let z : _≡_ {A = ℕ} 0 1 = cc in absurd (omega arith))
+      (λ f. let q : Post (postAt list at) ≡ Steps n = rw f at e in let z : _≡_ {A = ℕ} 0 1 = cc in absurd (omega arith))
 
   -- A walk from the first event, each time to the next, comes to every event by its index.
   pub walked : (i : ℕ)

@@ -1,14 +1,13 @@
 -- What the sheet of document 01 holds, computed by the definitions. Assumes nothing.
 use Prim.Native.Nat.{ℕ}
 use mathlib.Core.Path.{_≡_, refl}
-use mathlib.Core.Bool.{true}
 use mathlib.Core.List.{List, [], _∷_}
 use lib.ListN.{length, take}
 use Rattle.frame.specs.declared.LevelRow.{LevelRow}
 use Rattle.frame.specs.declared.SlaveRow.{SlaveRow}
 use Rattle.sheet.specs.Sheet.{listAt}
 use Rattle.sheetlist.specs.declared.Event.{Event}
-use Rattle.sheetlist.specs.declared.Event.the-variants.{Steps, Posts}
+use Rattle.sheetlist.specs.declared.Event.the-variants.{Steps, Post}
 use Rattle.sheetlist.specs.Held.{
   levelCount,
   slavesFrom,
@@ -37,7 +36,7 @@ slave : ℕ → ℕ → ℕ → ℕ → ℕ → SlaveRow
 slave s b l p t = record { space = s; base = b; length = l; port = p; time = t }
 
 post : ℕ → ℕ → ℕ → ℕ → ℕ → ℕ → Event
-post l d s a n o = Posts (record { level = l; direction = d; space = s; address = a; length = n; offset = o })
+post l d s a n o = Post (record { level = l; direction = d; space = s; address = a; length = n; offset = o })
 
 -- its level rows, its slave row and its events; the last event ends where the list ends
 record Holds : Type 0 where

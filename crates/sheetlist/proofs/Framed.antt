@@ -16,7 +16,22 @@ use Rattle.refusal.specs.declared.Refusal.the-variants.{BadEdition}
 use Rattle.number.specs.Number.{Bytes}
 use Rattle.frame.specs.Frame.{present, isRowCount, isMasterLength, levelsFit, slavesFit, isFramed}
 use Rattle.sheet.specs.declared.Judged.the-variants.{Good}
-use Rattle.sheet.specs.Sheet.{listAt, between, past, numbers, Rows, levels, slaves, rowsFrom, counted, countedEvents, sheet, numbersOf, readAnswer, readStored}
+use Rattle.sheet.specs.Sheet.{
+  listAt,
+  between,
+  past,
+  numbers,
+  Rows,
+  levels,
+  slaves,
+  rowsFrom,
+  counted,
+  countedEvents,
+  sheet,
+  numbersOf,
+  readAnswer,
+  readStored,
+}
 use Rattle.sheet.specs.declared.SheetAnswer.the-variants.{Done}
 use Rattle.sheet.proofs.Laws.{in-range, stands}
 use Rattle.sheet.proofs.Calls.{read-list}
@@ -173,7 +188,8 @@ module _ (list : List ℕ) where
       (and-both _ _ (le-leb 1 master low) (le-leb master 65536 high)))
 
 -- What was read from a sheet holds a set-up that keeps the frame.
-pub read-framed : (bytes out : List ℕ) (master : ℕ) {n : ℕ} → Bytes bytes → readAnswer bytes (length out) ≡ Done n → 1 ≤ master → master ≤ 65536
+pub read-framed : (bytes out : List ℕ) (master : ℕ) {n : ℕ} → Bytes bytes → readAnswer bytes (length out) ≡ Done n → 1 ≤ master
+    → master ≤ 65536
     → isFramed (setupOf (take n (readStored bytes out)) master) ≡ true
 read-framed bytes out master y e low high =
     let r = read-list bytes out y e in

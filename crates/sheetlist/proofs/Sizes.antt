@@ -1,26 +1,23 @@
 -- A valid sheet has at most 31,960 bytes. A level row has 3; a slave row 10, and one more where its length has three
 -- bytes, which at most three of sixteen rows can have; an event at most 31. Assumes nothing.
 use Prim.Native.Nat.{ℕ, zero, suc, _+_, _*_, _/_, _≤_, _<_}
-use mathlib.Core.Path.{_≡_, refl, sym, ap, _∙_}
-use mathlib.Core.Bool.{true, false}
+use mathlib.Core.Path.{_≡_, refl, ap, _∙_}
+use mathlib.Core.Bool.{true}
 use mathlib.Core.List.{List}
 use mathlib.Core.Logic.{⊎-elim}
-use native.Mathlib.Nat.{add-zero, eq-or-lt-of-le, le-of-suc-le-suc}
-use native.Mathlib.Numerals.{add-one}
+use native.Mathlib.Nat.{eq-or-lt-of-le, le-of-suc-le-suc}
 use native.Mathlib.Omega.{arith}
 use borrow.Author.Tests.{ltb-true, ltb-false}
 use lib.ListN.{length, getD, length-set}
 use lib.Seq.{getD-set-same}
-use lib.Dec.{ltb, lit≤}
+use lib.Dec.{ltb}
 use Rattle.basics.proofs.Tests.{by-test}
 use Rattle.cycle.proofs.Widths.{width-some, port-some}
 use Rattle.number.specs.Number.{shortest, bytesOf, readAt, Bytes}
 use Rattle.number.proofs.Laws.{size-last, size-more, bytes-most}
-use Rattle.frame.specs.declared.LevelRow.{LevelRow}
 use Rattle.frame.specs.declared.SlaveRow.{SlaveRow}
 use Rattle.frame.specs.Frame.{noLevel, noSlave, levelAt, slaveAt, present, lengthsBefore, levelsFit, slavesFit}
 use Rattle.frame.specs.Find.{slaveStoreLength}
-use Rattle.frame.proofs.RowLaws.{before-more}
 use Rattle.frame.proofs.FrameLaws.{LevelFacts, SlaveFacts, level-count, level-row-facts, limit-most, framed-levels, framed-slaves}
 use Rattle.frame.proofs.SlaveLaws.{slave-count, slave-row-facts, row-inside, store-most}
 use Rattle.sheet.specs.declared.Judged.the-variants.{Good}
@@ -30,7 +27,19 @@ use Rattle.sheet.proofs.Laws.{in-range, stands}
 use Rattle.sheet.proofs.Parts.{sheet-parts}
 use Rattle.sheet.proofs.RoundTrip.{place, place-on, place-end, bytes-back}
 use Rattle.sheet.proofs.Calls.{list-good}
-use Rattle.sheetlist.specs.Held.{levelCount, slavesFrom, slaveCount, eventsFrom, eventCount, table, levelsOf, slavesOf, setupOf, isSteps, eventFrom}
+use Rattle.sheetlist.specs.Held.{
+  levelCount,
+  slavesFrom,
+  slaveCount,
+  eventsFrom,
+  eventCount,
+  table,
+  levelsOf,
+  slavesOf,
+  setupOf,
+  isSteps,
+  eventFrom,
+}
 use Rattle.sheetlist.proofs.HeldLaws.{listed-at, listed-first}
 use Rattle.sheetlist.proofs.Steady.{level-kept, slave-kept}
 use Rattle.sheetlist.proofs.Framed.{setup-framed, levels-counted, slaves-counted}
@@ -90,13 +99,15 @@ module _ (list : List ℕ) where
   slave-length from count zero = refl
   slave-length from count (suc i) = simp length-set (slave-length from count i)
 
-  level-row : (from count n j : ℕ) → j < n → n ≤ 16 → levelAt (table levels list from count n) j ≡ levelOf (numbers (listAt list) 3 (from + j * 3))
+  level-row : (from count n j : ℕ) → j < n → n ≤ 16
+      → levelAt (table levels list from count n) j ≡ levelOf (numbers (listAt list) 3 (from + j * 3))
   level-row from count =
       table-row levels from count levelAt levelOf
       (λ i row h. getD-set-same (table levels list from count i .rows) i (levelOf row) noLevel (omega (arith, level-length from count i)))
       (λ t i j row h. level-kept t i j (levelOf row) h)
 
-  slave-row : (from count n j : ℕ) → j < n → n ≤ 16 → slaveAt (table slaves list from count n) j ≡ slaveOf (numbers (listAt list) 5 (from + j * 5))
+  slave-row : (from count n j : ℕ) → j < n → n ≤ 16
+      → slaveAt (table slaves list from count n) j ≡ slaveOf (numbers (listAt list) 5 (from + j * 5))
   slave-row from count =
       table-row slaves from count slaveAt slaveOf
       (λ i row h. getD-set-same (table slaves list from count i .rows) i (slaveOf row) noSlave (omega (arith, slave-length from count i)))
@@ -146,7 +157,8 @@ module _ (list : List ℕ) where
           arith,
           levels-sized j (omega arith),
           grows 0 at (at + 1) (omega arith) refl (omega (arith, f .level, listed-first list 3 at (omega arith))),
-          grows 0 (at + 1) (at + 2) (omega arith) (omega arith) (omega (arith, width-some (levelOf (numbers (listAt list) 3 at) .width) (f .width), listed-at list 3 at 1 (omega arith))),
+          grows 0 (at + 1) (at + 2) (omega arith) (omega arith)
+              (omega (arith, width-some (levelOf (numbers (listAt list) 3 at) .width) (f .width), listed-at list 3 at 1 (omega arith))),
           grows 0 (at + 2) (2 + suc j * 3) (omega arith) (omega arith) (omega (arith, f .options, listed-at list 3 at 2 (omega arith))),
         )
 

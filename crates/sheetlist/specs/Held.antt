@@ -10,9 +10,9 @@ use Rattle.frame.specs.declared.SlaveRows.{SlaveRows}
 use Rattle.frame.specs.declared.Setup.{Setup}
 use Rattle.frame.specs.Frame.{present}
 use Rattle.sheet.specs.Sheet.{listAt, numbers, Rows, levels, slaves}
-use Rattle.sheetlist.specs.declared.Post.{Post}
+use Rattle.sheetlist.specs.declared.PostFields.{PostFields}
 use Rattle.sheetlist.specs.declared.Event.{Event}
-use Rattle.sheetlist.specs.declared.Event.the-variants.{Steps, Posts}
+use Rattle.sheetlist.specs.declared.Event.the-variants.{Steps, Post}
 
 -- "Sheet: edition 1; level count and rows ..; slave count and rows ..; event count .. and events": the counts, each behind
 -- the rows before it
@@ -48,7 +48,7 @@ unfoldable pub setupOf : List ℕ → ℕ → Setup
 setupOf list master = record { levels = levelsOf list; slaves = slavesOf list; master = master }
 
 -- "An event is 0 and a step count .., or 1, level, direction, space, address, length, offset": the event at an index
-abbrev pub postAt : List ℕ → ℕ → Post
+abbrev pub postAt : List ℕ → ℕ → PostFields
 postAt list at =
     record {
       level = getD list (at + 1) 0;
@@ -63,7 +63,7 @@ abbrev pub isSteps : List ℕ → ℕ → Bool
 isSteps list at = eqb (getD list at 0) 0
 
 unfoldable pub eventAt : List ℕ → ℕ → Event
-eventAt list at = cond (isSteps list at) (Steps (getD list (at + 1) 0)) (Posts (postAt list at))
+eventAt list at = cond (isSteps list at) (Steps (getD list (at + 1) 0)) (Post (postAt list at))
 
 -- the index past it; behind the end of the list there is no event to pass
 unfoldable pub nextEvent : List ℕ → ℕ → ℕ

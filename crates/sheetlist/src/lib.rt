@@ -13,7 +13,7 @@ ghost use Rattle.sheetlist.specs.Held.{slavesFrom, eventsFrom, levelsOf,
 ghost use Rattle.sheetlist.specs.Held.{eventCount, firstEvent, postAt, eventAt, nextEvent, eventOf};
 
 // The numbers of a post, as the sheet has them: the post judges them.
-pub struct Post {
+pub struct PostFields {
     pub level: u32,
     pub direction: u32,
     pub space: u32,
@@ -25,7 +25,7 @@ pub struct Post {
 // So many steps, or a post.
 pub enum Event {
     Steps(u32),
-    Posts(Post),
+    Post(PostFields),
 }
 
 // The number at an index; 0 behind the end.
@@ -165,15 +165,15 @@ pub fn event_at(list: &[u32], at: usize) -> Event
     if list[at] == 0 {
         return Event::Steps(number_in(list, at + 1));
     }
-    Event::Posts(post_at(list, at))
+    Event::Post(post_at(list, at))
 }
 
 // The six numbers of a post that begins at an index.
-fn post_at(list: &[u32], at: usize) -> Post
+fn post_at(list: &[u32], at: usize) -> PostFields
     requires { do ⌜ at < (← ⟦list.len()⟧) ⌝ }
     ensures { λ r. ⌜ r ≡ postAt (now (list .entry)) at ⌝ }
 {
-    Post {
+    PostFields {
         level: number_in(list, at + 1),
         direction: number_in(list, at + 2),
         space: number_in(list, at + 3),

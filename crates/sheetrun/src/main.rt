@@ -10,7 +10,7 @@ use post::Order;
 use refusal::Refusal;
 use sheet::SheetAnswer;
 use sheetlist::Event;
-use sheetlist::Post;
+use sheetlist::PostFields;
 use step::StepAnswer;
 use tally::Tally;
 ghost use Prim.Native.Nat.{_<_};
@@ -103,7 +103,7 @@ fn log_steps(
     }
 }
 
-fn log_post(setup: Setup, session: Session, out: &mut [u8], order: Post) -> Session {
+fn log_post(setup: Setup, session: Session, out: &mut [u8], order: PostFields) -> Session {
     let channel = session.channel;
     let tally = session.tally;
     let filled = flushed(out, session.filled, 96);
@@ -119,7 +119,7 @@ fn log_post(setup: Setup, session: Session, out: &mut [u8], order: Post) -> Sess
     }
 }
 
-fn order_of(order: Post) -> Order {
+fn order_of(order: PostFields) -> Order {
     Order {
         level: order.level,
         direction: order.direction,
@@ -165,7 +165,7 @@ fn log_event(
 ) -> Session {
     match event {
         Event::Steps(steps) => log_steps(setup, session, slave, master, out, steps),
-        Event::Posts(order) => log_post(setup, session, out, order),
+        Event::Post(order) => log_post(setup, session, out, order),
     }
 }
 
