@@ -71,7 +71,7 @@ pub record Sound (setup : Setup) (ch : Channel) : Type 0 where
   pub marked : (l : ℕ) → l < 16 → isInactive (ch .inactive) l ≡ true → line ch ≡ true
   pub quiet : (o : ℕ) → ch .phase ≡ Granted o → ch .asked ≡ Never → line ch ≡ false
 
-accepted-is : (v : Verdict) → isAccepted v ≡ true → v ≡ Accepted
+pub accepted-is : (v : Verdict) → isAccepted v ≡ true → v ≡ Accepted
 accepted-is Accepted e = refl
 accepted-is (Refused r) e = absurd (false≢true e)
 

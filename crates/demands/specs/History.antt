@@ -1,0 +1,54 @@
+-- Any order of posts and steps, refused ones included.
+use Prim.Native.Nat.{ℕ}
+use mathlib.Core.Path.{_≡_}
+use mathlib.Core.Bool.{true}
+use mathlib.Core.List.{List, [], _∷_}
+use lib.ListN.{length}
+use Rattle.frame.specs.declared.Setup.{Setup}
+use Rattle.frame.specs.Frame.{isFramed}
+use Rattle.frame.specs.Find.{slaveStoreLength}
+use Rattle.channel.specs.declared.Channel.{Channel}
+use Rattle.channel.specs.Channel.{fresh, Shaped}
+use Rattle.sound.specs.Sound.{isSound}
+use Rattle.post.specs.declared.Order.{Order}
+use Rattle.post.specs.Post.{postOf}
+use Rattle.tally.specs.declared.Tally.{Tally}
+use Rattle.step.specs.Step.{stepOf, slaveAfter, masterAfter}
+
+-- the channel and the two stores
+pub record Moment : Type 0 where
+  pub channel : Channel
+  pub slave : List ℕ
+  pub master : List ℕ
+
+-- what the host may do: post six numbers, or take a step
+pub data Act : Type 0 where
+  posts : Order → Act
+  steps : Act
+
+-- the tally has no part in what happens: any will do
+abbrev pub noTally : Tally
+noTally = record { grants = 0; cycles = 0; bytes = 0; hold = 0 }
+
+-- the moment after an act; a refused one leaves everything
+abbrev pub next : Setup → Moment → Act → Moment
+next setup m (posts p) = record { channel = postOf setup (m .channel) p .channel; slave = m .slave; master = m .master }
+next setup m steps =
+    record {
+      channel = stepOf setup (m .channel) noTally (length (m .slave)) (length (m .master)) .channel;
+      slave = slaveAfter setup (m .channel) (m .slave) (m .master);
+      master = masterAfter setup (m .channel) (m .slave) (m .master);
+    }
+
+-- the moment after a history
+abbrev pub after : Setup → Moment → List Act → Moment
+after setup m [] = m
+after setup m (a ∷ acts) = after setup (next setup m a) acts
+
+-- where a history may start: a framed set-up, stores of the right lengths, and a sound channel
+pub record Start (setup : Setup) (m : Moment) : Type 0 where
+  pub framed : isFramed setup ≡ true
+  pub sound : isSound setup (m .channel) ≡ true
+  pub shaped : Shaped (m .channel)
+  pub slave : length (m .slave) ≡ slaveStoreLength (setup .slaves)
+  pub master : length (m .master) ≡ setup .master
