@@ -1,2 +1,4 @@
 pub mod KeptLaws
+pub mod RefusedLaws
+pub mod OwnerLaws
 pub mod BoundLaws

@@ -1,0 +1,57 @@
+-- The log of a history, and what it is for a log to keep to the owners.
+use Prim.Native.Nat.{ℕ}
+use mathlib.Core.Bool.{Bool, true, false, _&&_}
+use mathlib.Core.List.{List, [], _∷_}
+use lib.ListN.{length}
+use lib.Dec.{eqb}
+use Rattle.frame.specs.declared.Setup.{Setup}
+use Rattle.channel.specs.declared.Phase.{Phase}
+use Rattle.channel.specs.declared.Phase.the-variants.{Arbitrating, Granted}
+use Rattle.act.specs.declared.Ending.{Ending}
+use Rattle.act.specs.declared.Ending.the-variants.{Kept, Released, Marked}
+use Rattle.act.specs.declared.Entry.{Entry}
+use Rattle.act.specs.declared.Entry.the-variants.{Idle, Grant, Cycle, Release}
+use Rattle.step.specs.declared.StepAnswer.{StepAnswer}
+use Rattle.step.specs.declared.StepAnswer.the-variants.{Done, Refused}
+use Rattle.step.specs.Step.{stepOf}
+use Rattle.demands.specs.History.{Moment, Act, posts, steps, noTally, next}
+
+-- a step adds its entry; a refused one has none
+abbrev pub added : StepAnswer → List Entry → List Entry
+added (Done entry) log = entry ∷ log
+added (Refused why) log = log
+
+abbrev pub logOf : Setup → Moment → List Act → List Entry
+logOf setup m [] = []
+logOf setup m (posts p ∷ acts) = logOf setup (next setup m (posts p)) acts
+logOf setup m (steps ∷ acts) =
+    added (stepOf setup (m .channel) noTally (length (m .slave)) (length (m .master)) .answer) (logOf setup (next setup m steps) acts)
+
+-- who may be logged now: a grant only when nobody owns the channel, a cycle or a release only of the owner
+abbrev pub fits : Phase → Entry → Bool
+fits Arbitrating (Grant clock level) = true
+fits Arbitrating (Idle clock) = false
+fits Arbitrating (Cycle entry) = false
+fits Arbitrating (Release clock level hold) = false
+fits (Granted owner) (Grant clock level) = false
+fits (Granted owner) (Idle clock) = true
+fits (Granted owner) (Cycle entry) = eqb (entry .level) owner
+fits (Granted owner) (Release clock level hold) = eqb level owner
+
+-- who owns the channel after an entry, read off the entry
+abbrev pub heldAfter : Phase → Ending → Phase
+heldAfter phase Kept = phase
+heldAfter phase (Released hold) = Arbitrating
+heldAfter phase (Marked hold) = Arbitrating
+
+abbrev pub phaseAfter : Phase → Entry → Phase
+phaseAfter phase (Idle clock) = phase
+phaseAfter phase (Grant clock level) = Granted level
+phaseAfter phase (Cycle entry) = heldAfter phase (entry .ending)
+phaseAfter phase (Release clock level hold) = Arbitrating
+
+-- "only between its grant and its release": a log in which every cycle stands behind a grant of its level, with neither a release nor another grant
+-- between them
+abbrev pub keepsToOwners : Phase → List Entry → Bool
+keepsToOwners phase [] = true
+keepsToOwners phase (entry ∷ log) = fits phase entry && keepsToOwners (phaseAfter phase entry) log
