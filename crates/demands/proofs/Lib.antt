@@ -1,4 +1,5 @@
 pub mod KeptLaws
 pub mod RefusedLaws
 pub mod OwnerLaws
+pub mod TransferLaws
 pub mod BoundLaws

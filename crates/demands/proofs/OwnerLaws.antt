@@ -36,7 +36,7 @@ use Rattle.demands.specs.Log.{added, logOf, fits, heldAfter, phaseAfter,
 use Rattle.demands.proofs.KeptLaws.{next-kept}
 
 -- the line rule and a post leave the phase
-rule-phase : (ch : Channel) → lineRule ch .phase ≡ ch .phase
+pub rule-phase : (ch : Channel) → lineRule ch .phase ≡ ch .phase
 unfolding timed cleared
 rule-phase ch = refl
 
@@ -50,7 +50,7 @@ ended-phase Kept ch o = refl
 ended-phase (Released h) ch o = refl
 ended-phase (Marked h) ch o = refl
 
-moved-phase : (path : Path) (ch : Channel) (o : ℕ) (q : Request) → movedOn path ch o q .phase ≡ ch .phase
+pub moved-phase : (path : Path) (ch : Channel) (o : ℕ) (q : Request) → movedOn path ch o q .phase ≡ ch .phase
 unfolding movedOn withRequest clocked
 moved-phase path ch o q = refl
 
@@ -100,7 +100,7 @@ step-told setup m s =
     let r : Ready setup ch (length (m .slave)) (length (m .master)) = record { framed = s .framed; sound = s .sound; slave = s .slave; master = s .master } in
     rw (plan-ready setup ch (length (m .slave)) (length (m .master)) r) (act-told setup ch (actPlan setup ch) refl)
 
-post-phase : (setup : Setup) (m : Moment) (p : Order) → next setup m (posts p) .channel .phase ≡ m .channel .phase
+pub post-phase : (setup : Setup) (m : Moment) (p : Order) → next setup m (posts p) .channel .phase ≡ m .channel .phase
 unfolding postOf
 post-phase setup m p =
     by-test (isAccepted (postVerdict setup (m .channel) p)) (λ t. rw t (posted-phase (m .channel) p)) (λ f. rw f)

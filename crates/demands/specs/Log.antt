@@ -1,6 +1,6 @@
 -- The log of a history, and what it is for a log to keep to the owners.
 use Prim.Native.Nat.{ℕ}
-use mathlib.Core.Bool.{Bool, true, false, _&&_}
+use mathlib.Core.Bool.{Bool, true, false, _&&_, _||_}
 use mathlib.Core.List.{List, [], _∷_}
 use lib.ListN.{length}
 use lib.Dec.{eqb}
@@ -11,6 +11,9 @@ use Rattle.act.specs.declared.Ending.{Ending}
 use Rattle.act.specs.declared.Ending.the-variants.{Kept, Released, Marked}
 use Rattle.act.specs.declared.Entry.{Entry}
 use Rattle.act.specs.declared.Entry.the-variants.{Idle, Grant, Cycle, Release}
+use Rattle.cycle.specs.Cycle.{isTransferEnd}
+use Rattle.channel.specs.declared.Request.{Request}
+use Rattle.act.specs.Cycle.{pathOf, cycleBytes, restAfter}
 use Rattle.step.specs.declared.StepAnswer.{StepAnswer}
 use Rattle.step.specs.declared.StepAnswer.the-variants.{Done, Refused}
 use Rattle.step.specs.Step.{stepOf}
@@ -55,3 +58,24 @@ phaseAfter phase (Release clock level hold) = Arbitrating
 abbrev pub keepsToOwners : Phase → List Entry → Bool
 keepsToOwners phase [] = true
 keepsToOwners phase (entry ∷ log) = fits phase entry && keepsToOwners (phaseAfter phase entry) log
+
+-- the next cycle of a level's request
+abbrev pub isNextCycle : Setup → ℕ → Request → Entry → Bool
+isNextCycle setup owner q (Idle clock) = false
+isNextCycle setup owner q (Grant clock level) = false
+isNextCycle setup owner q (Cycle entry) =
+    (eqb (entry .level) owner && eqb (entry .address) (q .address)) && eqb (entry .bytes) (cycleBytes (pathOf setup owner q) q)
+isNextCycle setup owner q (Release clock level hold) = false
+
+abbrev pub restOf : Setup → ℕ → Request → Request
+restOf setup owner q = restAfter (pathOf setup owner q) q
+
+abbrev pub endsTransfer : Setup → ℕ → Request → Bool
+endsTransfer setup owner q = isTransferEnd (pathOf setup owner q .width) (restOf setup owner q .address) (restOf setup owner q .left)
+
+-- "A transfer ends when the next address is a multiple of W or the request is done.": a log that begins with the cycles of the owner's transfer, one
+-- after the other and nothing between them, up to that end or to the end of the log
+abbrev pub runsOn : Setup → ℕ → Request → List Entry → Bool
+runsOn setup owner q [] = true
+runsOn setup owner q (entry ∷ log) =
+    isNextCycle setup owner q entry && (endsTransfer setup owner q || runsOn setup owner (restOf setup owner q) log)

@@ -234,7 +234,7 @@ module _ (setup : Setup) (framed : isFramed setup ≡ true) (ch : Channel) (shap
   positive n e = omega (arith, eqb-false n 0 e)
 
   -- where the request goes on, its place holds the rest
-  goes-on : eqb (restAt setup ch o .left) 0 ≡ false → (m : ℕ) → m ≡ o → requestOf (movedAt setup ch o) m ≡ restAt setup ch o
+  pub goes-on : eqb (restAt setup ch o .left) 0 ≡ false → (m : ℕ) → m ≡ o → requestOf (movedAt setup ch o) m ≡ restAt setup ch o
   goes-on n m e = here m e ∙ slot-open (restAt setup ch o) n
 
   moved-request : (m : ℕ) → m < 16 → hasRequest (movedAt setup ch o .left) m ≡ true
