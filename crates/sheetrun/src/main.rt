@@ -346,6 +346,17 @@ fn run_many(input: &mut [u8], slave: &mut [u8], master: &mut [u8], out: &mut [u8
     }
 }
 
+// Reads the input to its end. What follows the buffer has no part in the judgement, but whoever writes to a pipe is not cut off.
+fn read_rest(rest: &mut [u8]) {
+    let mut i: u32 = 0;
+    while i < 4000000000 {
+        if io::read_full(STDIN_FILENO, rest) == 0 {
+            return;
+        }
+        i += 1;
+    }
+}
+
 fn main() {
     let mut input = io::large_buffer();
     let mut slave = io::large_buffer();
@@ -355,6 +366,7 @@ fn main() {
         run_many(&mut input, &mut slave, &mut master, &mut out);
     } else {
         let got = io::read_full(STDIN_FILENO, &mut input);
+        read_rest(&mut out);
         run_sheet(&input[..got], &mut slave, &mut master, &mut out, false);
     }
 }
