@@ -1,5 +1,6 @@
 # make run: the main job. make test: the whole gate. make compare: sheetrun against the second program, on more sheets.
-.PHONY: run test compare prove clean
+# make bench: the speed of our calls against the second program's.
+.PHONY: run test compare bench prove clean
 SHEET = examples/whole.sheet
 N = 100000
 SEED = 1
@@ -15,6 +16,9 @@ test:
 
 compare: prove
 	@tests/compare $(N) $(SEED)
+
+bench: prove
+	@bench/bench
 
 clean:
 	rm -rf target

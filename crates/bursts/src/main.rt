@@ -101,7 +101,7 @@ fn show(setup: Setup, steps: u32) {
         hold: 0,
     };
     let channel = contended(setup);
-    let ran = step::run(setup, channel, none, &mut slave, &mut master, steps);
+    let ran = run::run(setup, channel, none, &mut slave, &mut master, steps);
     let figures = ran.tally;
     print_pair(figures.cycles, figures.hold);
 }

@@ -10,10 +10,11 @@ use lib.ListN.{length, getD, replicate, getD-replicate, length-replicate, List·
 use lib.Seq.{ext-getD, set-out}
 use lib.Dec.{eqb}
 use Rattle.basics.specs.Scan.{anyBelow, firstFrom}
-use Rattle.basics.proofs.ScanLaws.{any-hit, any-ext, any-some, any-mono, any-none, first-finds, first-default}
+use Rattle.basics.proofs.ScanLaws.{any-hit, any-ext, any-some, any-mono, any-none, first-least, first-finds, first-default}
 use Rattle.basics.proofs.Tests.{by-test, and-left, and-right}
 use Rattle.channel.specs.declared.Phase.{Phase}
 use Rattle.channel.specs.declared.Phase.the-variants.{Arbitrating, Granted}
+use Rattle.channel.specs.declared.Asked.the-variants.{Never, At}
 use Rattle.channel.specs.declared.Channel.{Channel}
 use Rattle.channel.specs.declared.Request.{Request}
 use Rattle.channel.specs.Channel.{ownerOf, hasRequest, requestOf, withRequest, Shaped}
@@ -134,6 +135,21 @@ winner-is left inactive =
     let r = first-finds (waits left inactive) 0 16 15 (s .0) (omega arith) (omega (arith, s .1)) (s .2) in
     inl (r .0, omega (arith, r .2)))
     (λ f. inr (first-default (waits left inactive) 0 16 15 (λ j l h. any-none (waits left inactive) 16 f j (omega arith)), f))
+
+-- "The lowest-numbered level with an open request and no inactive mark wins": whoever waits is not below the winner
+pub winner-lowest : (left : List ℕ) (inactive : List Bool) (l : ℕ) → l < 16 → waits left inactive l ≡ true → winner left inactive ≤ l
+unfolding winner
+winner-lowest left inactive l h e = first-least (waits left inactive) 0 16 15 l (omega arith) (omega (arith, h)) e
+
+-- an asked time stays while the channel is granted: the 7,800 ns begin once
+pub asked-stays : (ch : Channel) (o t : ℕ) → ch .phase ≡ Granted o → ch .asked ≡ At t → lineRule ch .asked ≡ At t
+unfolding timed cleared
+asked-stays ch o t p a = rw (p, a)
+
+-- and it begins with an active line alone, not with the grant
+pub unasked : (ch : Channel) (o : ℕ) → ch .phase ≡ Granted o → ch .asked ≡ Never → line ch ≡ false → timed ch .asked ≡ Never
+unfolding timed
+unasked ch o p a f = rw (f, p, a)
 
 -- while arbitrating, the line is not active where nobody waits
 pub none-waits : (ch : Channel) → ch .phase ≡ Arbitrating → anyBelow (waits (ch .left) (ch .inactive)) 16 ≡ false → line ch ≡ false

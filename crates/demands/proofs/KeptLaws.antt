@@ -27,7 +27,7 @@ use Rattle.step.specs.declared.Plan.{Plan}
 use Rattle.step.specs.declared.Plan.the-variants as plan
 use Rattle.step.specs.Plan.{actPlan, planOf}
 use Rattle.step.specs.Step.{Ready, Able, advancedBy, stepOf, placeFor, movedSlave, movedMaster, slaveBy, masterBy, slaveAfter, masterAfter}
-use Rattle.step.proofs.PlanLaws.{able, plan-ready}
+use Rattle.step.proofs.PlanLaws.{able, moved-lengths, plan-ready}
 use Rattle.step.proofs.KeepLaws.{step-sound, step-shaped}
 use Rattle.demands.specs.History.{Moment, Act, posts, steps, next, after, Start}
 
@@ -50,15 +50,6 @@ post-kept setup m p s =
       master = s .master;
     }))
     (λ f. rw f (record { framed = s .framed; sound = s .sound; shaped = s .shaped; slave = s .slave; master = s .master }))
-
--- the lengths of the stores after a cycle
-moved-lengths : (path : Path) (ch : Channel) (q : Request) (slave master : List ℕ) → Able path ch q (length slave) (length master)
-    → (length (movedSlave path q slave master) ≡ length slave) × (length (movedMaster path q slave master) ≡ length master)
-unfolding movedSlave movedMaster placeFor
-moved-lengths path ch q slave master a =
-    by-test (eqb (q .direction) 0)
-    (λ t. rw t (refl, length-paste master (q .offset) _ (cycleBytes path q) (omega (arith, a .master)) (rw length-drop (omega (arith, a .slave)))))
-    (λ f. rw f (length-paste slave (path .start + (q .address - path .base)) _ (cycleBytes path q) (omega (arith, a .slave)) (rw length-drop (omega (arith, a .master))), refl))
 
 by-lengths : (setup : Setup) (ch : Channel) (p : Plan) (slave master : List ℕ) → Ready setup ch (length slave) (length master) → actPlan setup ch ≡ p
     → (length (slaveBy setup ch p slave master) ≡ length slave) × (length (masterBy setup ch p slave master) ≡ length master)

@@ -18,7 +18,7 @@ use Rattle.step.specs.declared.Plan.the-variants as plan
 use Rattle.step.specs.declared.StepAnswer.the-variants.{Refused}
 use Rattle.step.specs.Plan.{planOf}
 use Rattle.step.specs.Step.{advancedBy, stepOf, slaveAfter, masterAfter}
-use Rattle.step.proofs.RunLaws.{refused-still}
+use Rattle.step.proofs.PlanLaws.{refused-still}
 use Rattle.demands.specs.History.{Moment, posts, steps, noTally, next}
 
 refused-channel : (setup : Setup) (ch : Channel) (p : Plan) (why : Refusal) → advancedBy setup ch p .answer ≡ Refused why → advancedBy setup ch p .channel ≡ ch

@@ -39,7 +39,7 @@ use Rattle.demands.specs.Log.{added, logOf, isNextCycle, restOf, endsTra
 use Rattle.demands.proofs.KeptLaws.{next-kept}
 use Rattle.demands.proofs.OwnerLaws.{rule-phase, moved-phase, post-phase}
 
-rule-request : (ch : Channel) (l : ℕ) → requestOf (lineRule ch) l ≡ requestOf ch l
+pub rule-request : (ch : Channel) (l : ℕ) → requestOf (lineRule ch) l ≡ requestOf ch l
 unfolding timed cleared
 rule-request ch l = refl
 

@@ -1,8 +1,9 @@
 // The set-up and its frame (document 01, "The frame"): level rows, slave rows, the test of the frame, the row of a level,
 // the slave row that holds a range, and the place of an address in the slave store.
 ghost use mathlib.Core.Path.{_≡_};
-ghost use Prim.Native.Nat.{_≤_, _<_, _*_};
-ghost use Rattle.frame.specs.Frame.{present, isRowCount, isMasterLength, levelInRange, isRising, levelRowFits, levelsFit, isTime, limitOf, slaveInRange, areApart, isApart, lengthsBefore, slaveRowFits, slavesFit, isFramed};
+ghost use Prim.Native.Nat.{_≤_, _<_, _-_, _*_};
+ghost use Rattle.frame.specs.Frame.{present, isRowCount, isMasterLength, levelInRange, levelRowFits, levelsFit, isTime, limitOf, slaveInRange, areApart, isApart, lengthsBefore, slaveRowFits, slavesFit, isFramed};
+ghost use Rattle.frame.specs.Loops.{levelFits, slaveFits};
 ghost use Rattle.frame.specs.Find.{levelRow, holds, slaveRow, slaveStoreLength, placeOf, StartFits};
 
 pub struct LevelRow {
@@ -76,17 +77,21 @@ fn is_level_in_range(row: LevelRow) -> bool
     (row.level <= 15) & (cycle::is_width(row.width) & (row.options <= 7))
 }
 
-// The first row, or one with a higher level than the row before it.
-fn is_rising(levels: LevelRows, i: usize) -> bool
-    requires { ⌜ i < 16 ⌝ }
-    ensures { λ r. ⌜ r ≡ isRising levels i ⌝ }
+// Where the row before row i stands; the first row has none, and stands in for it.
+fn place_before(i: usize) -> usize
+    ensures { λ r. ⌜ r ≡ i - 1 ⌝ }
 {
-    if i == 0 {
-        return true;
-    }
-    let before = levels.rows[i - 1];
-    let row = levels.rows[i];
-    before.level < row.level
+    if i == 0 { 0 } else { i - 1 }
+}
+
+// A row keeps the frame at place i of `count` rows, behind a row of level `before`.
+fn level_fits(row: LevelRow, before: u32, i: usize, count: usize) -> bool
+    requires { ⌜ i < 16 ⌝ }
+    ensures { λ r. ⌜ r ≡ levelFits row before i count ⌝ }
+{
+    let rising = (i == 0) | (before < row.level);
+    let last = (i + 1 < count) | (row.level == 15);
+    is_level_in_range(row) & (rising & last)
 }
 
 // Level row i keeps the frame, with the rows before it.
@@ -97,11 +102,12 @@ pub fn level_row_fits(levels: LevelRows, i: usize) -> bool
         return false;
     }
     let row = levels.rows[i];
-    let last = (i + 1 < levels.count) | (row.level == 15);
-    is_level_in_range(row) & (is_rising(levels, i) & last)
+    let before = levels.rows[place_before(i)];
+    level_fits(row, before.level, i, levels.count)
 }
 
-// The level rows keep the frame.
+// The level rows keep the frame. The level of the row before is carried along: passing the rows on would copy them for
+// each row.
 pub fn levels_fit(levels: LevelRows) -> bool
     ensures { λ r. ⌜ r ≡ levelsFit levels ⌝ }
 {
@@ -109,11 +115,15 @@ pub fn levels_fit(levels: LevelRows) -> bool
     if !is_row_count(count) {
         return false;
     }
+    let first = levels.rows[0];
+    let mut before = first.level;
     let mut i: usize = 0;
     while i < count {
-        if !level_row_fits(levels, i) {
+        let row = levels.rows[i];
+        if !level_fits(row, before, i, count) {
             return false;
         }
+        before = row.level;
         i += 1;
     }
     true
@@ -185,6 +195,13 @@ fn lengths_before(slaves: SlaveRows, i: usize) -> usize
     sum
 }
 
+// A row keeps the frame whose length brings all lengths to `total`, if it is apart from the rows before it.
+fn slave_fits(row: SlaveRow, total: usize) -> bool
+    ensures { λ r. ⌜ r ≡ slaveFits row total ⌝ }
+{
+    is_slave_in_range(row) & (total <= 65536)
+}
+
 // Slave row i keeps the frame, with the rows before it.
 pub fn slave_row_fits(slaves: SlaveRows, i: usize) -> bool
     ensures { λ r. ⌜ r ≡ slaveRowFits slaves i ⌝ }
@@ -194,10 +211,11 @@ pub fn slave_row_fits(slaves: SlaveRows, i: usize) -> bool
     }
     let row = slaves.rows[i];
     let total = lengths_before(slaves, i) + row.length as usize;
-    is_slave_in_range(row) & (is_apart(slaves, i) & (total <= 65536))
+    slave_fits(row, total) & is_apart(slaves, i)
 }
 
-// The slave rows keep the frame.
+// The slave rows keep the frame. One loop goes through all pairs of a row j before a row i, and through the rows
+// themselves: passing the rows on for each i would copy them. The sum of the lengths is carried along.
 pub fn slaves_fit(slaves: SlaveRows) -> bool
     ensures { λ r. ⌜ r ≡ slavesFit slaves ⌝ }
 {
@@ -205,12 +223,26 @@ pub fn slaves_fit(slaves: SlaveRows) -> bool
     if !is_row_count(count) {
         return false;
     }
+    let mut total: usize = 0;
     let mut i: usize = 0;
+    let mut j: usize = 0;
     while i < count {
-        if !slave_row_fits(slaves, i) {
-            return false;
+        if i <= j {
+            let row = slaves.rows[i];
+            total += row.length as usize;
+            if !slave_fits(row, total) {
+                return false;
+            }
+            i += 1;
+            j = 0;
+        } else {
+            let other = slaves.rows[j];
+            let row = slaves.rows[i];
+            if !are_apart(other, row) {
+                return false;
+            }
+            j += 1;
         }
-        i += 1;
     }
     true
 }
@@ -248,7 +280,7 @@ pub fn level_row(levels: LevelRows, level: u32) -> FoundLevel
 }
 
 // The range lies wholly inside the row.
-fn row_holds(row: SlaveRow, space: u32, address: u32, n: u32) -> bool
+pub fn row_holds(row: SlaveRow, space: u32, address: u32, n: u32) -> bool
     ensures { λ r. ⌜ r ≡ holds row space address n ⌝ }
 {
     let end = address as u64 + n as u64;

@@ -1,5 +1,5 @@
--- The sheet of document 01, the empty sheet and an example or more of each refusal 10 to 17, with its place, as one table
--- that antt computes by the definitions. Assumes nothing.
+-- A small sheet, the empty sheet and an example or more of each refusal 10 to 17, with its place, as one table that antt
+-- computes by the definitions. Assumes nothing. (The sheet of document 01 is in the crate examples.)
 use Prim.Native.Nat.{ℕ, _-_}
 use mathlib.Core.Path.{_≡_, refl}
 use mathlib.Core.Bool.{Bool, true, false, _&&_}
@@ -50,20 +50,7 @@ data Example : Type 0 where
   -- the writer refuses this list, with room for so many bytes
   writes : List ℕ → ℕ → ℕ → ℕ → Example
 
--- "One sheet, whole"
-whole : List ℕ
-whole =
-    0x01 ∷ 0x03 ∷ 0x03 ∷ 0x04 ∷ 0x03 ∷ 0x07 ∷ 0x02 ∷ 0x02 ∷ 0x0f ∷ 0x04
-    ∷ 0x00 ∷ 0x01 ∷ 0x01 ∷ 0x80 ∷ 0x20 ∷ 0x10 ∷ 0x02 ∷ 0xc8 ∷ 0x01 ∷ 0x04
-    ∷ 0x01 ∷ 0x03 ∷ 0x01 ∷ 0x01 ∷ 0x81 ∷ 0x20 ∷ 0x07 ∷ 0x00 ∷ 0x00 ∷ 0x02
-    ∷ 0x01 ∷ 0x07 ∷ 0x00 ∷ 0x01 ∷ 0x80 ∷ 0x20 ∷ 0x02 ∷ 0x10 ∷ 0x00 ∷ 0x07 ∷ []
-
-wholeList : List ℕ
-wholeList =
-    1 ∷ 3 ∷ 3 ∷ 4 ∷ 3 ∷ 7 ∷ 2 ∷ 2 ∷ 15 ∷ 4 ∷ 0 ∷ 1 ∷ 1 ∷ 4096 ∷ 16 ∷ 2 ∷ 200 ∷ 4
-    ∷ 1 ∷ 3 ∷ 1 ∷ 1 ∷ 4097 ∷ 7 ∷ 0 ∷ 0 ∷ 2 ∷ 1 ∷ 7 ∷ 0 ∷ 1 ∷ 4096 ∷ 2 ∷ 16 ∷ 0 ∷ 7 ∷ []
-
--- our own: edition and level row 15, and behind them one slave row; the small sheet has no events
+-- edition and level row 15, and behind them one slave row; the small sheet has no events
 levelPart : List ℕ
 levelPart = 0x01 ∷ 0x01 ∷ 0x0f ∷ 0x02 ∷ 0x00 ∷ []
 
@@ -78,8 +65,7 @@ smallList = 1 ∷ 1 ∷ 15 ∷ 2 ∷ 0 ∷ 1 ∷ 0 ∷ 0 ∷ 4 ∷ 1 ∷ 200 ∷
 
 table : List Example
 table =
-    is whole wholeList
-    ∷ is small smallList
+    is small smallList
     -- 10: the empty sheet, before a number that is due, inside a number, and inside a row that would be against the frame
     ∷ reads [] 99 10 0
     ∷ reads rows 99 10 12
@@ -148,7 +134,7 @@ allHold [] = true
 allHold (e ∷ es) = holds e && allHold es
 
 examples : allHold table ≡ true
-unfolding allHold table holds same saysDone saysRefused whole wholeList levelPart rows small smallList
+unfolding allHold table holds same saysDone saysRefused levelPart rows small smallList
     readAnswer readStored writeAnswer writeStored numbersOf sheet body counted countedEvents event stepCount between listAt readAt bytesOf
     levelInRange isRising isLastFifteen levelRowFits isTime limitOf isPlaced slaveInRange areApart isApart lengthsBefore slaveRowFits
     isWidth isPort allBelow

@@ -2,5 +2,4 @@ pub mod HeldLaws
 pub mod Steady
 pub mod Framed
 pub mod EventLaws
-pub mod Examples
 pub mod Sizes

@@ -2,3 +2,4 @@ pub mod Sums
 pub mod SoundFacts
 pub mod RequestFacts
 pub mod RuleLaws
+pub mod TableLaws

@@ -1,3 +1,4 @@
 pub mod Rows
 pub mod Request
 pub mod Sound
+pub mod Tables

@@ -14,9 +14,12 @@ use frame::SlaveRows;
 use refusal::Refusal;
 use refusal::Verdict;
 ghost use mathlib.Core.Path.{_≡_};
+ghost use Prim.Native.Nat.{_<_, _+_};
+ghost use lib.Dec.{ltb};
 ghost use Rattle.sound.specs.Rows.{isPresent, levelOf, slaveOf, startOf, hasBurst, isFair, hasLinger};
 ghost use Rattle.sound.specs.Request.{isInRange, requestVerdict, transferOf};
-ghost use Rattle.sound.specs.Sound.{allowance, isWithin, isBlank, isGrantSound, isOwnerSound, isRequestSound, areRequestsSound, isMarkSound, areMarksSound, isInTime, isAskedAt, isAskedSound, isSound};
+ghost use Rattle.sound.specs.Sound.{allowance, isWithin, isBlank, isInTime, isAskedAt, isAskedSound, isSound};
+ghost use Rattle.sound.specs.Tables.{AreMembers, grantFits, ownerFits, requestAt, areBlank, restFits, areOpenSound, areMarked};
 
 // The level is in the set-up.
 pub fn is_present(levels: LevelRows, level: u32) -> bool
@@ -98,6 +101,13 @@ fn is_in_range(request: Request) -> bool
     cycle::is_length(request.left) & ((request.direction <= 1) & (request.space <= 1))
 }
 
+// The range isn't wholly inside the master store.
+fn is_past_master(master: u32, request: Request) -> bool
+    ensures { λ r. ⌜ r ≡ ltb master (request .offset + request .left) ⌝ }
+{
+    (master as u64) < request.offset as u64 + request.left as u64
+}
+
 // Refusals 3, 4 and 5 of a request, or of what is left of one.
 pub fn request_verdict(setup: Setup, request: Request) -> Verdict
     ensures { λ r. ⌜ r ≡ requestVerdict setup request ⌝ }
@@ -110,7 +120,7 @@ pub fn request_verdict(setup: Setup, request: Request) -> Verdict
     match found {
         FoundSlave::Missing => Verdict::Refused(Refusal::OutsideSlave),
         FoundSlave::Row(_, _) => {
-            if (setup.master as u64) < request.offset as u64 + request.left as u64 {
+            if is_past_master(setup.master, request) {
                 return Verdict::Refused(Refusal::OutsideMaster);
             }
             Verdict::Accepted
@@ -143,78 +153,167 @@ fn is_blank(request: Request) -> bool
         & ((request.space == 0) & ((request.address == 0) & (request.offset == 0)))
 }
 
-// An owner is present, has a request unless it is 15, and isn't inactive.
-fn is_grant_sound(levels: LevelRows, channel: Channel, owner: u8) -> bool
-    ensures { λ r. ⌜ r ≡ isGrantSound levels channel owner ⌝ }
+// Which levels the set-up has, and which of them are fair, by level number. A search of the rows for each level would
+// copy them each time.
+struct Members {
+    present: [bool; 16],
+    fair: [bool; 16],
+}
+
+// The rows are gone through from the last to the first: a level's first row counts.
+fn members_of(levels: LevelRows) -> Members
+    ensures { λ r. ⌜ AreMembers levels r ⌝ }
 {
-    let at = owner as usize;
+    let mut present = [false; 16];
+    let mut fair = [false; 16];
+    let mut i: usize = if levels.count < 16 { levels.count } else { 16 };
+    while 0 < i {
+        i -= 1;
+        let row = levels.rows[i];
+        if row.level < 16 {
+            let at = row.level as usize;
+            present[at] = true;
+            fair[at] = is_fair(row.options);
+        }
+    }
+    Members {
+        present: present,
+        fair: fair,
+    }
+}
+
+// An owner is present, has a request unless it is 15, and isn't inactive.
+fn is_grant_sound<'a>(
+    present: &'a [bool; 16],
+    left: &'a [u32; 16],
+    inactive: &'a [bool; 16],
+    owner: u8,
+) -> bool
+    ensures { λ r. ⌜ r ≡ grantFits (now (present .entry)) (now (left .entry)) (now (inactive .entry)) owner ⌝ }
+{
     if 15 < owner {
         return false;
     }
-    let asking = (owner == 15) | (channel.left[at] != 0);
-    let inactive = channel.inactive[at];
-    is_present(levels, owner as u32) & (asking & !inactive)
+    let at = owner as usize;
+    let asking = (owner == 15) | (left[at] != 0);
+    present[at] & (asking & !inactive[at])
 }
 
-fn is_owner_sound(levels: LevelRows, channel: Channel) -> bool
-    ensures { λ r. ⌜ r ≡ isOwnerSound levels channel ⌝ }
+fn is_owner_sound<'a>(
+    present: &'a [bool; 16],
+    left: &'a [u32; 16],
+    inactive: &'a [bool; 16],
+    phase: Phase,
+) -> bool
+    ensures { λ r. ⌜ r ≡ ownerFits (now (present .entry)) (now (left .entry)) (now (inactive .entry)) phase ⌝ }
 {
-    let phase = channel.phase;
     match phase {
         Phase::Arbitrating => true,
-        Phase::Granted(owner) => is_grant_sound(levels, channel, owner),
+        Phase::Granted(owner) => is_grant_sound(present, left, inactive, owner),
     }
 }
 
-// A level with an open request is present, and what is left meets none of 3, 4 and 5; one without has zeros.
-fn is_request_sound(setup: Setup, channel: Channel, level: u32) -> bool
-    ensures { λ r. ⌜ r ≡ isRequestSound setup channel level ⌝ }
+// What is left of a level's request.
+fn request_at<'a>(
+    direction: &'a [u32; 16],
+    space: &'a [u32; 16],
+    address: &'a [u32; 16],
+    left: &'a [u32; 16],
+    offset: &'a [u32; 16],
+    level: usize,
+) -> Request
+    requires { ⌜ level < 16 ⌝ }
+    ensures { λ r. ⌜ r ≡ requestAt (now (direction .entry)) (now (space .entry)) (now (address .entry)) (now (left .entry)) (now (offset .entry)) level ⌝ }
 {
-    let request = channel::request_of(channel, level as usize);
-    if request.left == 0 {
-        return is_blank(request);
+    Request {
+        direction: direction[level],
+        space: space[level],
+        address: address[level],
+        left: left[level],
+        offset: offset[level],
     }
-    let levels = setup.levels;
-    let verdict = request_verdict(setup, request);
-    is_present(levels, level) & refusal::is_accepted(verdict)
 }
 
-fn are_requests_sound(setup: Setup, channel: Channel) -> bool
-    ensures { λ r. ⌜ r ≡ areRequestsSound setup channel ⌝ }
+// Every place without a request holds zeros. There is no early return, so that several levels are tested at a time.
+fn are_blank<'a>(
+    direction: &'a [u32; 16],
+    space: &'a [u32; 16],
+    address: &'a [u32; 16],
+    left: &'a [u32; 16],
+    offset: &'a [u32; 16],
+) -> bool
+    ensures { λ r. ⌜ r ≡ areBlank (now (direction .entry)) (now (space .entry)) (now (address .entry)) (now (left .entry)) (now (offset .entry)) ⌝ }
 {
-    let mut level: u32 = 0;
+    let mut all = true;
+    let mut level: usize = 0;
     while level < 16 {
-        if !is_request_sound(setup, channel, level) {
-            return false;
-        }
+        let request = request_at(direction, space, address, left, offset, level);
+        all = all & ((request.left != 0) | is_blank(request));
         level += 1;
+    }
+    all
+}
+
+// A level is present, and what is left of its request meets neither 3 nor 5.
+fn is_rest_sound(present: bool, master: u32, request: Request) -> bool
+    ensures { λ r. ⌜ r ≡ restFits present master request ⌝ }
+{
+    present & (is_in_range(request) & !is_past_master(master, request))
+}
+
+// Every level with an open request is present, and what is left meets none of 3, 4 and 5. One loop goes through the
+// levels, and for an open request through the slave rows: passing the rows on for each level would copy them.
+fn are_open_sound<'a>(
+    setup: Setup,
+    present: &'a [bool; 16],
+    direction: &'a [u32; 16],
+    space: &'a [u32; 16],
+    address: &'a [u32; 16],
+    left: &'a [u32; 16],
+    offset: &'a [u32; 16],
+) -> bool
+    ensures { λ r. ⌜ r ≡ areOpenSound setup (now (present .entry))
+        (now (direction .entry)) (now (space .entry)) (now (address .entry)) (now (left .entry)) (now (offset .entry)) ⌝ }
+{
+    let slaves = setup.slaves;
+    let count = if slaves.count < 16 { slaves.count } else { 16 };
+    let mut level: usize = 0;
+    let mut i: usize = 0;
+    while level < 16 {
+        let request = request_at(direction, space, address, left, offset, level);
+        if request.left == 0 {
+            level += 1;
+            i = 0;
+        } else {
+            if count <= i {
+                return false;
+            }
+            let row = slaves.rows[i];
+            if frame::row_holds(row, request.space, request.address, request.left) {
+                if !is_rest_sound(present[level], setup.master, request) {
+                    return false;
+                }
+                level += 1;
+                i = 0;
+            } else {
+                i += 1;
+            }
+        }
     }
     true
 }
 
-// An inactive mark stands at a present, fair level, and only while the line is active.
-fn is_mark_sound(levels: LevelRows, marked: bool, active: bool, level: u32) -> bool
-    ensures { λ r. ⌜ r ≡ isMarkSound levels marked active level ⌝ }
+// Every inactive mark stands at a present, fair level, and only while the line is active.
+fn are_marks_sound<'a>(fair: &'a [bool; 16], inactive: &'a [bool; 16], active: bool) -> bool
+    ensures { λ r. ⌜ r ≡ areMarked (now (fair .entry)) (now (inactive .entry)) active ⌝ }
 {
-    if !marked {
-        return true;
-    }
-    let row = level_of(levels, level);
-    is_present(levels, level) & (is_fair(row.options) & active)
-}
-
-fn are_marks_sound(levels: LevelRows, channel: Channel, active: bool) -> bool
-    ensures { λ r. ⌜ r ≡ areMarksSound levels (channel .inactive) active ⌝ }
-{
-    let mut level: u32 = 0;
+    let mut all = true;
+    let mut level: usize = 0;
     while level < 16 {
-        let at = level as usize;
-        if !is_mark_sound(levels, channel.inactive[at], active, level) {
-            return false;
-        }
+        all = all & (!inactive[level] | (fair[level] & active));
         level += 1;
     }
-    true
+    all
 }
 
 // How long a preempted owner may still hold the channel.
@@ -277,14 +376,39 @@ fn is_asked_sound(setup: Setup, channel: Channel, active: bool) -> bool
     }
 }
 
-// The channel is sound.
+// The channel is sound. Each test that fails ends it: in one expression the compiler would mix the loops of two tests.
 pub fn is_sound(setup: Setup, channel: Channel) -> bool
     ensures { λ r. ⌜ r ≡ isSound setup channel ⌝ }
 {
     let levels = setup.levels;
     let phase = channel.phase;
+    let members = members_of(levels);
+    if !is_owner_sound(&members.present, &channel.left, &channel.inactive, phase) {
+        return false;
+    }
+    let blank = are_blank(
+        &channel.direction,
+        &channel.space,
+        &channel.address,
+        &channel.left,
+        &channel.offset,
+    );
+    if !blank {
+        return false;
+    }
     let active = channel::line_active(&channel.left, &channel.inactive, phase);
-    let settled = is_owner_sound(levels, channel) & are_requests_sound(setup, channel);
-    let marked = are_marks_sound(levels, channel, active);
-    settled & (marked & ((channel.clock <= 4000000000) & is_asked_sound(setup, channel, active)))
+    let marked = are_marks_sound(&members.fair, &channel.inactive, active);
+    let timed = (channel.clock <= 4000000000) & is_asked_sound(setup, channel, active);
+    if !(marked & timed) {
+        return false;
+    }
+    are_open_sound(
+        setup,
+        &members.present,
+        &channel.direction,
+        &channel.space,
+        &channel.address,
+        &channel.left,
+        &channel.offset,
+    )
 }

@@ -114,7 +114,7 @@ module _ (setup : Setup) (framed : isFramed setup ≡ true) (ch : Channel) (s : 
       }
 
   -- release without a request
-  leave-settled : Settled setup (freed ch (ch .inactive))
+  pub leave-settled : Settled setup (freed ch (ch .inactive))
   unfolding freed
   leave-settled =
       record {
@@ -128,16 +128,16 @@ module _ (setup : Setup) (framed : isFramed setup ≡ true) (ch : Channel) (s : 
       }
 
 -- the names of one cycle: the owner's path, what is left of its request, and the channel moved on
-abbrev pathAt : Setup → Channel → ℕ → Path
+abbrev pub pathAt : Setup → Channel → ℕ → Path
 pathAt setup ch o = pathOf setup o (requestOf ch o)
 
-abbrev restAt : Setup → Channel → ℕ → Request
+abbrev pub restAt : Setup → Channel → ℕ → Request
 restAt setup ch o = restAfter (pathAt setup ch o) (requestOf ch o)
 
-abbrev movedAt : Setup → Channel → ℕ → Channel
+abbrev pub movedAt : Setup → Channel → ℕ → Channel
 movedAt setup ch o = movedOn (pathAt setup ch o) ch o (requestOf ch o)
 
-clocked-shaped : (ch : Channel) (k : ℕ) → Shaped ch → Shaped (clocked ch k)
+pub clocked-shaped : (ch : Channel) (k : ℕ) → Shaped ch → Shaped (clocked ch k)
 unfolding clocked
 clocked-shaped ch k s =
     record {
@@ -192,11 +192,11 @@ module _ (setup : Setup) (framed : isFramed setup ≡ true) (ch : Channel) (shap
       found-part (setup .slaves) (framed-slaves setup framed) (requestOf ch o .space) (requestOf ch o .address) (requestOf ch o .left)
       (restAt setup ch o .address) (restAt setup ch o .left) _ _ (fits .found) (omega arith) (omega arith) h
 
-  same-slave : 0 < restAt setup ch o .left → slaveOf (setup .slaves) (restAt setup ch o) ≡ slaveOf (setup .slaves) (requestOf ch o)
+  pub same-slave : 0 < restAt setup ch o .left → slaveOf (setup .slaves) (restAt setup ch o) ≡ slaveOf (setup .slaves) (requestOf ch o)
   unfolding slaveOf
   same-slave h = ap slaveOr (part h)
 
-  same-start : 0 < restAt setup ch o .left → startOf (setup .slaves) (restAt setup ch o) ≡ startOf (setup .slaves) (requestOf ch o)
+  pub same-start : 0 < restAt setup ch o .left → startOf (setup .slaves) (restAt setup ch o) ≡ startOf (setup .slaves) (requestOf ch o)
   unfolding startOf
   same-start h = ap startOr (part h)
 
@@ -213,18 +213,18 @@ module _ (setup : Setup) (framed : isFramed setup ≡ true) (ch : Channel) (shap
       }
 
   -- the requests afterwards
-  here : (m : ℕ) → m ≡ o → requestOf (movedAt setup ch o) m ≡ slotAfter (restAt setup ch o)
+  pub here : (m : ℕ) → m ≡ o → requestOf (movedAt setup ch o) m ≡ slotAfter (restAt setup ch o)
   unfolding movedOn
   here m e =
       rw e
       (request-same (clocked ch (ch .clock + pathAt setup ch o .time)) o (slotAfter (restAt setup ch o))
       (clocked-shaped ch (ch .clock + pathAt setup ch o .time) shaped) (omega (arith, small)))
 
-  other : (m : ℕ) → (m ≡ o → ⊥) → requestOf (movedAt setup ch o) m ≡ requestOf ch m
+  pub other : (m : ℕ) → (m ≡ o → ⊥) → requestOf (movedAt setup ch o) m ≡ requestOf ch m
   unfolding movedOn clocked
   other m n = request-other (clocked ch (ch .clock + pathAt setup ch o .time)) o m (slotAfter (restAt setup ch o)) n
 
-  kept-open : (m : ℕ) → (m ≡ o → ⊥) → hasRequest (movedAt setup ch o .left) m ≡ hasRequest (ch .left) m
+  pub kept-open : (m : ℕ) → (m ≡ o → ⊥) → hasRequest (movedAt setup ch o .left) m ≡ hasRequest (ch .left) m
   kept-open m n = ap (λ (q : Request). not (eqb (q .left) 0)) (other m n)
 
   here-open : (m : ℕ) → m ≡ o → hasRequest (movedAt setup ch o .left) m ≡ not (eqb (slotAfter (restAt setup ch o) .left) 0)
@@ -277,12 +277,12 @@ module _ (setup : Setup) (framed : isFramed setup ≡ true) (ch : Channel) (shap
       simp (e, and-false))
       (λ b. rw (kept-open l (eqb-false l o b)))
 
-  line-same : line (movedAt setup ch o) ≡ line ch
+  pub line-same : line (movedAt setup ch o) ≡ line ch
   unfolding lineActive movedOn clocked withRequest
   line-same = any-ext _ _ 16 drives-same
 
   -- the clock after the cycle
-  clockAfter : ℕ
+  unfoldable pub clockAfter : ℕ
   clockAfter = ch .clock + pathAt setup ch o .time
 
   -- the time of a transfer of the rest, by the path of the whole
@@ -335,7 +335,7 @@ module _ (setup : Setup) (framed : isFramed setup ≡ true) (ch : Channel) (shap
       (inside-within t i))
 
   -- kept
-  kept-settled : isLeaving (pathAt setup ch o) (ch .asked) clockAfter (restAt setup ch o) ≡ false → Settled setup (movedAt setup ch o)
+  pub kept-settled : isLeaving (pathAt setup ch o) (ch .asked) clockAfter (restAt setup ch o) ≡ false → Settled setup (movedAt setup ch o)
   unfolding movedOn clocked withRequest pathOf clockAfter
   kept-settled e =
       let g = s .settled .owner o phase in
@@ -390,7 +390,7 @@ module _ (setup : Setup) (framed : isFramed setup ≡ true) (ch : Channel) (shap
       (ap (isPresent (setup .levels)) q ∙ present, ap (λ (m : ℕ). isFair (levelOf (setup .levels) m .options)) q ∙ f))
       (λ b. s .settled .fair l k (sym (getD-set-other (ch .inactive) o l true false (eqb-false l o b)) ∙ e))
 
-  released-settled : (a : Asked) → Settled setup (endedBy (releasedBy (pathAt setup ch o .options) a clockAfter) (movedAt setup ch o) o)
+  pub released-settled : (a : Asked) → Settled setup (endedBy (releasedBy (pathAt setup ch o .options) a clockAfter) (movedAt setup ch o) o)
   unfolding pathOf movedOn clocked withRequest
   released-settled Never = freed-settled (ch .inactive) (s .settled .fair)
   released-settled (At t) =
@@ -433,7 +433,7 @@ module _ (setup : Setup) (framed : isFramed setup ≡ true) (ch : Channel) (shap
   step-sound (Cycle o) e = cycle-sound o e
 
 -- and keeps the arrays' shape
-freed-shaped : (ch : Channel) (marks : List Bool) → length marks ≡ 16 → Shaped ch → Shaped (freed ch marks)
+pub freed-shaped : (ch : Channel) (marks : List Bool) → length marks ≡ 16 → Shaped ch → Shaped (freed ch marks)
 unfolding freed
 freed-shaped ch marks n k =
     record { inactive = n; direction = k .direction; space = k .space; address = k .address; left = k .left; offset = k .offset }
@@ -443,12 +443,12 @@ unfolding granted
 granted-shaped ch w k =
     record { inactive = k .inactive; direction = k .direction; space = k .space; address = k .address; left = k .left; offset = k .offset }
 
-ended-shaped : (ending : Ending) (ch : Channel) (o : ℕ) → Shaped ch → Shaped (endedBy ending ch o)
+pub ended-shaped : (ending : Ending) (ch : Channel) (o : ℕ) → Shaped ch → Shaped (endedBy ending ch o)
 ended-shaped Kept ch o k = k
 ended-shaped (Released h) ch o k = freed-shaped ch (ch .inactive) (k .inactive) k
 ended-shaped (Marked h) ch o k = freed-shaped ch (markedAt (ch .inactive) o) (length-set (ch .inactive) o true ∙ k .inactive) k
 
-moved-shaped : (path : Path) (ch : Channel) (o : ℕ) (q : Request) → Shaped ch → Shaped (movedOn path ch o q)
+pub moved-shaped : (path : Path) (ch : Channel) (o : ℕ) (q : Request) → Shaped ch → Shaped (movedOn path ch o q)
 unfolding movedOn
 moved-shaped path ch o q k =
     with-shaped (clocked ch (ch .clock + path .time)) o (slotAfter (restAfter path q)) (clocked-shaped ch (ch .clock + path .time) k)

@@ -1,3 +1,3 @@
 pub mod PlanLaws
 pub mod KeepLaws
-pub mod RunLaws
+pub mod QuietLaws

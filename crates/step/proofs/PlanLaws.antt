@@ -2,11 +2,13 @@
 use Prim.Native.Nat.{ℕ, _+_, _-_, _≤_, _<_}
 use mathlib.Core.Path.{_≡_, refl, sym, ap, _∙_}
 use mathlib.Core.Bool.{Bool, true, false, _&&_}
+use mathlib.Core.List.{List}
 use native.Mathlib.Nat.{le-trans}
 use native.Mathlib.Omega.{arith}
 use borrow.Author.Tests.{ltb-false, eqb-true, eq-eqb}
 use lib.Dec.{eqb, ltb}
-use lib.ListN.{getD, length}
+use lib.ListN.{getD, length, drop, length-drop}
+use lib.Seq.{paste, length-paste}
 use Rattle.refusal.specs.declared.Refusal.{Refusal}
 use Rattle.refusal.specs.declared.Refusal.the-variants.{ClockFull}
 use Rattle.refusal.specs.declared.Verdict.the-variants.{Accepted, Refused as NotReady}
@@ -19,18 +21,21 @@ use Rattle.frame.proofs.SlaveLaws.{store-most}
 use Rattle.channel.specs.declared.Phase.{Phase}
 use Rattle.channel.specs.declared.Phase.the-variants.{Arbitrating, Granted}
 use Rattle.channel.specs.declared.Channel.{Channel}
+use Rattle.channel.specs.declared.Request.{Request}
 use Rattle.channel.specs.Channel.{hasRequest, requestOf}
 use Rattle.channel.specs.Line.{line, winner}
 use Rattle.sound.specs.Rows.{slaveOf, startOf}
 use Rattle.sound.specs.Sound.{clockLimit, isSound}
 use Rattle.sound.proofs.SoundFacts.{sound-is}
 use Rattle.sound.proofs.RequestFacts.{Fits, fits-is, slave-facts-of}
-use Rattle.act.specs.Cycle.{pathOf}
+use Rattle.act.specs.declared.Path.{Path}
+use Rattle.act.specs.Cycle.{pathOf, cycleBytes}
 use Rattle.act.specs.Turn.{arbitrationTime}
 use Rattle.step.specs.declared.Plan.{Plan}
 use Rattle.step.specs.declared.Plan.the-variants.{Idle, Refused, Grant, Leave, Cycle}
 use Rattle.step.specs.Plan.{timed, ownerPlan, phasePlan, actPlan, readyVerdict, planBy, planOf}
-use Rattle.step.specs.Step.{Ready, Able}
+use Rattle.step.specs.declared.StepAnswer.the-variants.{Refused as NotDone}
+use Rattle.step.specs.Step.{Ready, Able, Roomy, advancedBy, placeFor, movedSlave, movedMaster, slaveBy, masterBy}
 
 -- what is known where a plan was made
 abbrev Says : Setup → Channel → Phase → Plan → Type 0
@@ -67,21 +72,19 @@ pub says : (setup : Setup) (ch : Channel) (plan : Plan) → actPlan setup ch ≡
 unfolding actPlan
 says setup ch plan e = rw e at (phase-says setup ch (ch .phase))
 
--- a cycle that is planned on a sound channel over stores of the right lengths has room in the row, in both stores and on the clock
-pub able : (setup : Setup) (ch : Channel) (o slave master : ℕ) → Ready setup ch slave master → actPlan setup ch ≡ Cycle o
-    → Able (pathOf setup o (requestOf ch o)) ch (requestOf ch o) slave master
+-- the owner's request on a sound channel over stores of the right lengths has room in its row and in both stores
+pub roomy : (setup : Setup) (ch : Channel) (o slave master : ℕ) → Ready setup ch slave master → ch .phase ≡ Granted o → eqb (getD (ch .left) o 0) 0 ≡ false
+    → Roomy (pathOf setup o (requestOf ch o)) (requestOf ch o) slave master
 unfolding pathOf
-able setup ch o slave master r e =
-    let p = says setup ch (Cycle o) e in
+roomy setup ch o slave master r phase some =
     let s = sound-is setup ch (r .sound) .settled in
-    let g = s .owner o (p .0) in
+    let g = s .owner o phase in
     let q = requestOf ch o in
-    let f = fits-is setup q (s .request o (omega (arith, g .small)) (rw (p .1)) .1) in
+    let f = fits-is setup q (s .request o (omega (arith, g .small)) (rw some) .1) in
     let found = slave-facts-of setup (r .framed) q f in
     let m = framed-master setup (r .framed) in
     let most = store-most (setup .slaves) (framed-slaves setup (r .framed)) in
     record {
-      clock = p .2;
       end = omega (arith, found .range .ends, found .facts .end, limit-most (slaveOf (setup .slaves) q .space));
       offset = omega (arith, f .master, m .1);
       begins = found .range .begins;
@@ -89,6 +92,15 @@ able setup ch o slave master r e =
       slave = omega (arith, found .inside, found .range .begins, found .range .ends, r .slave);
       master = omega (arith, f .master, r .master);
     }
+
+-- and a cycle that is planned has room on the clock too
+pub able : (setup : Setup) (ch : Channel) (o slave master : ℕ) → Ready setup ch slave master → actPlan setup ch ≡ Cycle o
+    → Able (pathOf setup o (requestOf ch o)) ch (requestOf ch o) slave master
+unfolding pathOf
+able setup ch o slave master r e =
+    let p = says setup ch (Cycle o) e in
+    let q = roomy setup ch o slave master r (p .0) (p .1) in
+    record { clock = p .2; end = q .end; offset = q .offset; begins = q .begins; start = q .start; slave = q .slave; master = q .master }
 
 -- a call that is refused by neither 9 nor 8 is ready, and its plan is the act's
 not-ready : {r : Refusal} → NotReady r ≡ Accepted → ⊥
@@ -115,3 +127,21 @@ ready-by setup ch slave master r = rw (r .framed, r .sound, eq-eqb slave _ (r .s
 pub plan-ready : (setup : Setup) (ch : Channel) (slave master : ℕ) → Ready setup ch slave master → planOf setup ch slave master ≡ actPlan setup ch
 unfolding planOf
 plan-ready setup ch slave master r = ap (planBy setup ch) (ready-by setup ch slave master r)
+
+-- a refused act leaves the stores
+pub refused-still : (setup : Setup) (ch : Channel) (p : Plan) (why : Refusal) (slave master : List ℕ) → advancedBy setup ch p .answer ≡ NotDone why
+    → (slaveBy setup ch p slave master ≡ slave) × (masterBy setup ch p slave master ≡ master)
+refused-still setup ch Idle why slave master e = let z : _≡_ {A = ℕ} 0 1 = cc in absurd (omega arith)
+refused-still setup ch (Refused r) why slave master e = (refl, refl)
+refused-still setup ch (Grant w) why slave master e = let z : _≡_ {A = ℕ} 0 1 = cc in absurd (omega arith)
+refused-still setup ch (Leave o) why slave master e = let z : _≡_ {A = ℕ} 0 1 = cc in absurd (omega arith)
+refused-still setup ch (Cycle o) why slave master e = let z : _≡_ {A = ℕ} 0 1 = cc in absurd (omega arith)
+
+-- the lengths of the stores after a cycle
+pub moved-lengths : (path : Path) (ch : Channel) (q : Request) (slave master : List ℕ) → Able path ch q (length slave) (length master)
+    → (length (movedSlave path q slave master) ≡ length slave) × (length (movedMaster path q slave master) ≡ length master)
+unfolding movedSlave movedMaster placeFor
+moved-lengths path ch q slave master a =
+    by-test (eqb (q .direction) 0)
+    (λ t. rw t (refl, length-paste master (q .offset) _ (cycleBytes path q) (omega (arith, a .master)) (rw length-drop (omega (arith, a .slave)))))
+    (λ f. rw f (length-paste slave (path .start + (q .address - path .base)) _ (cycleBytes path q) (omega (arith, a .slave)) (rw length-drop (omega (arith, a .master))), refl))

@@ -1,3 +1,2 @@
 pub mod Plan
 pub mod Step
-pub mod Run

@@ -98,3 +98,12 @@ pub record Able (path : Path) (ch : Channel) (q : Request) (s m : ℕ) : Type 0 
   pub start : path .start ≤ 65536
   pub slave : path .start + (q .address - path .base) + q .left ≤ s
   pub master : q .offset + q .left ≤ m
+
+-- what the cycles of a request rely on: room in the address space and in both stores for all that is left of it
+pub record Roomy (path : Path) (q : Request) (s m : ℕ) : Type 0 where
+  pub end : q .address + q .left ≤ 16777216
+  pub offset : q .offset + q .left ≤ 65536
+  pub begins : path .base ≤ q .address
+  pub start : path .start ≤ 65536
+  pub slave : path .start + (q .address - path .base) + q .left ≤ s
+  pub master : q .offset + q .left ≤ m

@@ -14,13 +14,11 @@ use refusal::Verdict;
 use tally::Tally;
 ghost use mathlib.Core.Path.{_≡_};
 ghost use Prim.Native.Nat.{_+_, _-_, _≤_};
-ghost use lib.ListN.{length, drop};
-ghost use lib.Seq.{paste};
+ghost use lib.ListN.{length};
 ghost use Rattle.channel.specs.Channel.{requestOf, withRequest};
 ghost use Rattle.act.specs.Cycle.{pathOf, restAfter, clocked, cycleTurn};
 ghost use Rattle.act.specs.Turn.{arbitrationTime, granted, grantTurn};
 ghost use Rattle.step.specs.Plan.{ownerPlan, actPlan, readyVerdict, planOf};
-ghost use Rattle.step.specs.Run.{world, verdictOf, stoppedBy, runFrom, runOf};
 ghost use Rattle.step.specs.Step.{Ready, Able, doneBy, advancedBy, tallyBy, stepOf, movedSlave, movedMaster, slaveBy, masterBy, slaveAfter, masterAfter};
 
 // What a step is going to do.
@@ -48,14 +46,6 @@ pub struct Stepped {
     pub channel: Channel,
     pub tally: Tally,
     pub answer: StepAnswer,
-}
-
-// The channel and the tally after a run, the steps done, and why it was refused or stopped, if it was.
-pub struct Ran {
-    pub channel: Channel,
-    pub tally: Tally,
-    pub steps: u32,
-    pub verdict: Verdict,
 }
 
 // The plan while a level owns the channel: a cycle of its request, or without one a release or nothing.
@@ -95,7 +85,7 @@ fn act_plan(setup: Setup, channel: Channel) -> Plan
 }
 
 // Refusals 9 and 8, which a step and a run share.
-fn ready_verdict(setup: Setup, channel: Channel, slave: usize, master: usize) -> Verdict
+pub fn ready_verdict(setup: Setup, channel: Channel, slave: usize, master: usize) -> Verdict
     ensures { λ r. ⌜ r ≡ readyVerdict setup channel slave master ⌝ }
 {
     if !(frame::is_framed(setup) & sound::is_sound(setup, channel)) {
@@ -219,19 +209,6 @@ fn turn_grant(channel: Channel, winner: u8) -> Turned
     }
 }
 
-// Byte i of the source from `from` on goes to byte i of the target from `to` on, for i below n; the rest stays.
-fn move_bytes(source: &[u8], from: usize, target: &mut [u8], to: usize, n: usize)
-    requires { ⌜ from + n ≤ length (now source) ⌝ }
-    requires { ⌜ to + n ≤ length (now target) ⌝ }
-    ensures { λ r. ⌜ now (target .exit) ≡ paste (now (target .entry)) to (drop from (now (source .entry))) n ⌝ }
-{
-    let mut i: usize = 0;
-    while i < n {
-        target[to + i] = source[from + i];
-        i += 1;
-    }
-}
-
 // The bytes of one cycle: direction 0 goes from the slave to the master, 1 the other way.
 fn carry(path: Path, request: Request, slave: &mut [u8], master: &mut [u8])
     requires { ⌜ path .base ≤ request .address ⌝ }
@@ -249,9 +226,9 @@ fn carry(path: Path, request: Request, slave: &mut [u8], master: &mut [u8])
     let place = path.start + (request.address - path.base) as usize;
     let offset = request.offset as usize;
     if request.direction == 0 {
-        move_bytes(slave, place, master, offset, bytes);
+        basics::move_bytes(slave, place, master, offset, bytes);
     } else {
-        move_bytes(master, offset, slave, place, bytes);
+        basics::move_bytes(master, offset, slave, place, bytes);
     }
 }
 
@@ -348,99 +325,6 @@ pub fn step(
                 tally: figures,
                 answer: answer,
             }
-        }
-    }
-}
-
-fn verdict_of(answer: StepAnswer) -> Verdict
-    ensures { λ r. ⌜ r ≡ verdictOf answer ⌝ }
-{
-    match answer {
-        StepAnswer::Done(_) => Verdict::Accepted,
-        StepAnswer::Refused(why) => Verdict::Refused(why),
-    }
-}
-
-// A run that stops before a refused step.
-fn stopped(channel: Channel, tally: Tally, done: u32, answer: StepAnswer) -> Ran
-    ensures { λ r. ⌜ r ≡ stoppedBy channel tally done answer ⌝ }
-{
-    let verdict = verdict_of(answer);
-    Ran {
-        channel: channel,
-        tally: tally,
-        steps: done,
-        verdict: verdict,
-    }
-}
-
-// Up to `budget` steps of a sound channel over stores of the right lengths. Every step keeps the channel sound, so that
-// nothing is tested again.
-fn run_steps(
-    setup: Setup,
-    channel: Channel,
-    tally: Tally,
-    slave: &mut [u8],
-    master: &mut [u8],
-    budget: u32,
-) -> Ran
-    requires { ⌜ Ready setup channel (length (now slave)) (length (now master)) ⌝ }
-    ensures { λ r. ⌜ r ≡ runFrom setup budget 0 (world channel tally (now (slave .entry)) (now (master .entry))) .result ⌝ }
-    ensures { λ r. ⌜ now (slave .exit) ≡ runFrom setup budget 0 (world channel tally (now (slave .entry)) (now (master .entry))) .slave ⌝ }
-    ensures { λ r. ⌜ now (master .exit) ≡ runFrom setup budget 0 (world channel tally (now (slave .entry)) (now (master .entry))) .master ⌝ }
-{
-    let mut current = channel;
-    let mut figures = tally;
-    let mut done: u32 = 0;
-    while done < budget {
-        let next = advance(setup, current, slave, master);
-        let answer = next.answer;
-        let StepAnswer::Done(entry) = answer else {
-            return stopped(current, figures, done, answer);
-        };
-        figures = tally::add_entry(figures, entry);
-        current = next.channel;
-        done += 1;
-    }
-    Ran {
-        channel: current,
-        tally: figures,
-        steps: done,
-        verdict: Verdict::Accepted,
-    }
-}
-
-// Runs up to `budget` steps: refusals 9, 8 and 7, in that order; it stops before a step that meets 6.
-pub fn run(
-    setup: Setup,
-    channel: Channel,
-    tally: Tally,
-    slave: &mut [u8],
-    master: &mut [u8],
-    budget: u32,
-) -> Ran
-    ensures { λ r. ⌜ r ≡ runOf setup budget (world channel tally (now (slave .entry)) (now (master .entry))) .result ⌝ }
-    ensures { λ r. ⌜ now (slave .exit) ≡ runOf setup budget (world channel tally (now (slave .entry)) (now (master .entry))) .slave ⌝ }
-    ensures { λ r. ⌜ now (master .exit) ≡ runOf setup budget (world channel tally (now (slave .entry)) (now (master .entry))) .master ⌝ }
-{
-    let verdict = ready_verdict(setup, channel, slave.len(), master.len());
-    match verdict {
-        Verdict::Refused(why) => Ran {
-            channel: channel,
-            tally: tally,
-            steps: 0,
-            verdict: Verdict::Refused(why),
-        },
-        Verdict::Accepted => {
-            if 65535 < budget {
-                return Ran {
-                    channel: channel,
-                    tally: tally,
-                    steps: 0,
-                    verdict: Verdict::Refused(Refusal::TooManySteps),
-                };
-            }
-            run_steps(setup, channel, tally, slave, master, budget)
         }
     }
 }

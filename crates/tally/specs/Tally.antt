@@ -5,7 +5,6 @@ use Rattle.act.specs.declared.Hold.{Hold}
 use Rattle.act.specs.declared.Hold.the-variants.{Unasked, After}
 use Rattle.act.specs.declared.Ending.{Ending}
 use Rattle.act.specs.declared.Ending.the-variants.{Kept, Released, Marked}
-use Rattle.act.specs.declared.CycleEntry.{CycleEntry}
 use Rattle.act.specs.declared.Entry.{Entry}
 use Rattle.act.specs.declared.Entry.the-variants.{Idle, Grant, Cycle, Release}
 use Rattle.tally.specs.declared.Tally.{Tally}
@@ -27,19 +26,27 @@ endingFigure Kept = 0
 endingFigure (Released hold) = holdFigure hold
 endingFigure (Marked time) = time
 
-unfoldable pub addCycle : Tally → CycleEntry → Tally
-addCycle t e =
+-- "grants": one more
+unfoldable pub addGrant : Tally → Tally
+addGrant t = record { grants = capped (t .grants) 1; cycles = t .cycles; bytes = t .bytes; hold = t .hold }
+
+-- "cycles, bytes moved": one more cycle, of so many bytes; and "longest hold" where it ends in a release
+unfoldable pub addCycle : Tally → ℕ → Ending → Tally
+addCycle t bytes ending =
     record {
       grants = t .grants;
       cycles = capped (t .cycles) 1;
-      bytes = capped (t .bytes) (e .bytes);
-      hold = larger (t .hold) (endingFigure (e .ending));
+      bytes = capped (t .bytes) bytes;
+      hold = larger (t .hold) (endingFigure ending);
     }
 
+-- "longest hold": a release without a request
+unfoldable pub addRelease : Tally → Hold → Tally
+addRelease t hold = record { grants = t .grants; cycles = t .cycles; bytes = t .bytes; hold = larger (t .hold) (holdFigure hold) }
+
+-- "Each step .. adds to the tally by that entry"
 abbrev pub addEntry : Tally → Entry → Tally
 addEntry t (Idle clock) = t
-addEntry t (Grant clock level) =
-    record { grants = capped (t .grants) 1; cycles = t .cycles; bytes = t .bytes; hold = t .hold }
-addEntry t (Cycle e) = addCycle t e
-addEntry t (Release clock level hold) =
-    record { grants = t .grants; cycles = t .cycles; bytes = t .bytes; hold = larger (t .hold) (holdFigure hold) }
+addEntry t (Grant clock level) = addGrant t
+addEntry t (Cycle e) = addCycle t (e .bytes) (e .ending)
+addEntry t (Release clock level hold) = addRelease t hold

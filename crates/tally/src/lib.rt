@@ -1,10 +1,10 @@
-// The tally (document 01, "One step"): grants, cycles, bytes moved and the longest hold, by value.
-use act::CycleEntry;
+// The tally (document 01, "One step"): grants, cycles, bytes moved and the longest hold, by value
+// and as the host lends it.
 use act::Ending;
 use act::Entry;
 use act::Hold;
 ghost use mathlib.Core.Path.{_≡_};
-ghost use Rattle.tally.specs.Tally.{capped, larger, holdFigure, endingFigure, addCycle, addEntry};
+ghost use Rattle.tally.specs.Tally.{capped, larger, holdFigure, endingFigure, addGrant, addCycle, addRelease, addEntry};
 
 pub struct Tally {
     pub grants: u32,
@@ -51,15 +51,39 @@ fn ending_figure(ending: Ending) -> u32
     }
 }
 
-fn add_cycle(tally: Tally, entry: CycleEntry) -> Tally
-    ensures { λ r. ⌜ r ≡ addCycle tally entry ⌝ }
+// One more grant.
+pub fn add_grant(tally: Tally) -> Tally
+    ensures { λ r. ⌜ r ≡ addGrant tally ⌝ }
 {
-    let ending = entry.ending;
+    Tally {
+        grants: add_capped(tally.grants, 1),
+        cycles: tally.cycles,
+        bytes: tally.bytes,
+        hold: tally.hold,
+    }
+}
+
+// One more cycle, of so many bytes and with this ending.
+pub fn add_cycle(tally: Tally, bytes: u32, ending: Ending) -> Tally
+    ensures { λ r. ⌜ r ≡ addCycle tally bytes ending ⌝ }
+{
     Tally {
         grants: tally.grants,
         cycles: add_capped(tally.cycles, 1),
-        bytes: add_capped(tally.bytes, entry.bytes),
+        bytes: add_capped(tally.bytes, bytes),
         hold: larger_of(tally.hold, ending_figure(ending)),
+    }
+}
+
+// One more release without a request.
+pub fn add_release(tally: Tally, hold: Hold) -> Tally
+    ensures { λ r. ⌜ r ≡ addRelease tally hold ⌝ }
+{
+    Tally {
+        grants: tally.grants,
+        cycles: tally.cycles,
+        bytes: tally.bytes,
+        hold: larger_of(tally.hold, hold_figure(hold)),
     }
 }
 
@@ -69,18 +93,18 @@ pub fn add_entry(tally: Tally, entry: Entry) -> Tally
 {
     match entry {
         Entry::Idle(_) => tally,
-        Entry::Grant(_, _) => Tally {
-            grants: add_capped(tally.grants, 1),
-            cycles: tally.cycles,
-            bytes: tally.bytes,
-            hold: tally.hold,
-        },
-        Entry::Cycle(cycle) => add_cycle(tally, cycle),
-        Entry::Release(_, _, hold) => Tally {
-            grants: tally.grants,
-            cycles: tally.cycles,
-            bytes: tally.bytes,
-            hold: larger_of(tally.hold, hold_figure(hold)),
-        },
+        Entry::Grant(_, _) => add_grant(tally),
+        Entry::Cycle(cycle) => {
+            let ending = cycle.ending;
+            add_cycle(tally, cycle.bytes, ending)
+        }
+        Entry::Release(_, _, hold) => add_release(tally, hold),
     }
+}
+
+// The tally that the host lends, after one more step.
+pub fn count(tally: &mut Tally, entry: Entry)
+    ensures { λ _. ⌜ now (tally .exit) ≡ addEntry (now (tally .entry)) entry ⌝ }
+{
+    *tally = add_entry(*tally, entry);
 }

@@ -1,39 +1,31 @@
-use Prim.Native.Nat.{ℕ, _+_, _-_, _*_, _≤_, _<_}
-use Rattle.basics.proofs.ScanLaws.{all-more, all-miss}
+use Prim.Native.Nat.{ℕ, _-_, _≤_}
 use Rattle.basics.specs.Scan.{allBelow}
 use Rattle.channel.specs.Line.{isInactive}
-use Rattle.sound.specs.Sound.{isMarkSound, areMarksSound}
-use borrow.Author.Tests.{not-true, not-false}
-use mathlib.Core.Bool.{true, false}
-use mathlib.Core.Path.{_≡_, refl, sym, ap, _∙_}
+use Rattle.sound.specs.Tables.{areMarked}
+use lib.ListN.{getD}
+use mathlib.Core.Bool.{false, not, _&&_, _||_}
+use mathlib.Core.Path.{_≡_, refl}
+use native.Mathlib.Numerals.{add-one}
 use native.Mathlib.Omega.{arith}
 use Rattle.sound.proofs.are_marks_sound.Statement.{statement}
 use Rattle.sound.proofs.are_marks_sound.Tie as tie
 
 abbrev Inv-loop : tie.InvT-loop
-Inv-loop levels active channel level₀ level = (level ≤ 16) × (allBelow (λ (l : ℕ). isMarkSound levels (isInactive (channel .inactive) l) active l) level ≡ true)
+Inv-loop fair inactive active all₀ level₀ all level =
+    (level ≤ 16) × (all ≡ allBelow (λ (l : ℕ). not (isInactive inactive l) || (getD fair l false && active)) level)
 
 abbrev μ-loop : tie.MeasureT-loop
-μ-loop levels active channel level₀ level = 16 - level
+μ-loop fair inactive active all₀ level₀ all level = 16 - level
 
 loop-holds : tie.Need-loop-holds Inv-loop μ-loop
 unfolding allBelow
 loop-holds c = (omega arith, refl)
 
-cast-at : tie.Need-cast-at Inv-loop μ-loop
-cast-at c = omega arith
+element-copy-out-all : tie.Need-element-copy-out-all Inv-loop μ-loop
+element-copy-out-all c = omega arith
 
-element-copy-out-is-mark-sound : tie.Need-element-copy-out-is-mark-sound Inv-loop μ-loop
-element-copy-out-is-mark-sound c = omega arith
-
-is-mark-sound-requires : tie.Need-is-mark-sound-requires Inv-loop μ-loop
-is-mark-sound-requires c κs = tt
-
-returns : tie.Need-returns Inv-loop μ-loop
-unfolding areMarksSound
-returns c =
-    let l = c .before .before .before .before .loop in
-    sym (all-miss _ (l .level) 16 (omega arith) (sym (c .before .is-mark-sound .ensures) ∙ not-true _ (c .if1 .taken)))
+element-copy-out-all-2 : tie.Need-element-copy-out-all-2 Inv-loop μ-loop
+element-copy-out-all-2 c = omega arith
 
 add-level : tie.Need-add-level Inv-loop μ-loop
 add-level c = omega arith
@@ -42,15 +34,12 @@ loop-less : tie.Need-loop-less Inv-loop μ-loop
 loop-less c = omega arith
 
 loop-again : tie.Need-loop-again Inv-loop μ-loop
-loop-again c =
-    let l = c .before .before .before .before .loop in
-    (omega arith, all-more _ (l .level) (l .inv .1) (sym (c .before .is-mark-sound .ensures) ∙ not-false _ (c .if1 .left)))
+unfolding allBelow
+loop-again c = let l = c .before .before .before .loop in (omega arith, rw (add-one (l .level), l .inv .1))
 
-returns-2 : tie.Need-returns-2 Inv-loop μ-loop
-unfolding areMarksSound
-returns-2 c =
-    let e : c .before .loop .level ≡ 16 = omega arith in
-    sym (rw e at (c .before .loop .inv .1))
+returns : tie.Need-returns Inv-loop μ-loop
+unfolding areMarked
+returns c = let e : c .before .loop .level ≡ 16 = omega arith in rw e at (c .before .loop .inv .1)
 
 pub are-marks-sound-spec : {M : Type 1} → statement M
 are-marks-sound-spec =
@@ -59,11 +48,9 @@ are-marks-sound-spec =
     Inv-loop
     μ-loop
     loop-holds
-    cast-at
-    element-copy-out-is-mark-sound
-    is-mark-sound-requires
-    returns
+    element-copy-out-all
+    element-copy-out-all-2
     add-level
     loop-less
     loop-again
-    returns-2)
+    returns)

@@ -1,12 +1,9 @@
-use Rattle.sound.specs.Sound.{isGrantSound}
 use borrow.Author.Needs.{needs}
 use borrow.Author.Tests.{lt-leb, le-leb}
-use mathlib.Core.Path.{_≡_, refl, sym, ap, _∙_}
 use Rattle.sound.proofs.is_grant_sound.Statement.{statement}
 use Rattle.sound.proofs.is_grant_sound.Tie as tie
 
 returns : tie.Need-returns
-unfolding isGrantSound
 returns c = rw (lt-leb _ 15 (c .if1 .taken))
 
 mul-asking : tie.Need-mul-asking
@@ -15,15 +12,14 @@ mul-asking c = search needs
 element-copy-out-asking : tie.Need-element-copy-out-asking
 element-copy-out-asking c = search needs
 
-element-copy-out-inactive : tie.Need-element-copy-out-inactive
-element-copy-out-inactive c = search needs
+element-copy-out-result : tie.Need-element-copy-out-result
+element-copy-out-result c = search needs
 
-is-present-requires : tie.Need-is-present-requires
-is-present-requires c κs = search needs
+element-copy-out-result-2 : tie.Need-element-copy-out-result-2
+element-copy-out-result-2 c = search needs
 
 returns-2 : tie.Need-returns-2
-unfolding isGrantSound
-returns-2 c = rw (le-leb _ 15 (c .before .before .before .if1 .left), c .is-present .ensures)
+returns-2 c = rw (le-leb _ 15 (c .before .before .before .if1 .left))
 
 pub is-grant-sound-spec : {M : Type 1} → statement M
 is-grant-sound-spec =
@@ -32,6 +28,6 @@ is-grant-sound-spec =
     returns
     mul-asking
     element-copy-out-asking
-    element-copy-out-inactive
-    is-present-requires
+    element-copy-out-result
+    element-copy-out-result-2
     returns-2)

@@ -1,7 +1,7 @@
 use Rattle.sound.specs.Request.{requestVerdict}
 use borrow.Author.Needs.{needs}
-use borrow.Author.Tests.{not-true, not-false, lt-ltb, le-ltb}
-use mathlib.Core.Path.{_≡_, refl, sym, ap, _∙_}
+use borrow.Author.Tests.{not-true, not-false}
+use mathlib.Core.Path.{sym, _∙_}
 use Rattle.sound.proofs.request_verdict.Statement.{statement}
 use Rattle.sound.proofs.request_verdict.Tie as tie
 
@@ -21,33 +21,25 @@ enum-told c = search needs
 enum-told-2 : tie.Need-enum-told-2
 enum-told-2 c = search needs
 
-cast-if2 : tie.Need-cast-if2
-cast-if2 c = search needs
-
-cast-if2-2 : tie.Need-cast-if2-2
-cast-if2-2 c = search needs
-
-cast-if2-3 : tie.Need-cast-if2-3
-cast-if2-3 c = search needs
-
-add-if2 : tie.Need-add-if2
-add-if2 c = search needs
+is-past-master-requires : tie.Need-is-past-master-requires
+is-past-master-requires c κs = search needs
 
 returns-2 : tie.Need-returns-2
 unfolding requestVerdict
 returns-2 c =
     rw (
-      sym (c .before .before .before .before .before .before .before .before .before .is-in-range .ensures)
-          ∙ not-false _ (c .before .before .before .before .before .before .before .before .if1 .left),
-      sym (c .before .before .before .before .before .before .slave-row .ensures .0) ∙ c .before .before .before .before .enum-told2 .given .1,
-      lt-ltb _ _ (c .if2 .taken),
+      sym (c .before .before .before .before .before .before .before .is-in-range .ensures)
+          ∙ not-false _ (c .before .before .before .before .before .before .if1 .left),
+      sym (c .before .before .before .before .slave-row .ensures .0) ∙ c .before .before .enum-told2 .given .1,
+      sym (c .before .is-past-master .ensures) ∙ c .if2 .taken,
     )
 
 returns-3 : tie.Need-returns-3
 unfolding requestVerdict
 returns-3 c =
     rw (
-      sym (c .before .before .before .before .before .is-in-range .ensures) ∙ not-false _ (c .before .before .before .before .if1 .left),
+      sym (c .before .before .before .before .before .is-in-range .ensures)
+          ∙ not-false _ (c .before .before .before .before .if1 .left),
       sym (c .before .before .slave-row .ensures .0) ∙ c .enum-told .given .1,
     )
 
@@ -55,10 +47,10 @@ returns-4 : tie.Need-returns-4
 unfolding requestVerdict
 returns-4 c =
     rw (
-      sym (c .before .before .before .before .before .before .before .before .before .is-in-range .ensures)
-          ∙ not-false _ (c .before .before .before .before .before .before .before .before .if1 .left),
-      sym (c .before .before .before .before .before .before .slave-row .ensures .0) ∙ c .before .before .before .before .enum-told2 .given .1,
-      le-ltb _ _ (c .if2 .left),
+      sym (c .before .before .before .before .before .before .before .is-in-range .ensures)
+          ∙ not-false _ (c .before .before .before .before .before .before .if1 .left),
+      sym (c .before .before .before .before .slave-row .ensures .0) ∙ c .before .before .enum-told2 .given .1,
+      sym (c .before .is-past-master .ensures) ∙ c .if2 .left,
     )
 
 pub request-verdict-spec : {M : Type 1} → statement M
@@ -70,10 +62,7 @@ request-verdict-spec =
     slave-row-requires
     enum-told
     enum-told-2
-    cast-if2
-    cast-if2-2
-    cast-if2-3
-    add-if2
+    is-past-master-requires
     returns-2
     returns-3
     returns-4)

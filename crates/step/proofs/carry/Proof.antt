@@ -1,3 +1,5 @@
+use Rattle.basics.proofs.MoveLaws.{moved-inside}
+use native.Mathlib.Omega.{arith}
 use Rattle.step.specs.Step.{movedSlave, movedMaster, placeFor}
 use borrow.Author.Needs.{needs}
 use borrow.Author.Tests.{eq-eqb, ne-eqb}
@@ -44,7 +46,8 @@ returns c =
     let e = eq-eqb _ 0 (c .before .before .before .before .before .if1 .taken) in
     let n = c .before .before .before .before .before .before .before .before .before .before .before .cycle-length .ensures in
     let w = c .before .before .before .before .before .before .before .before .before .before .before .before .narrow .ensures in
-    (rw e, rw (e, ← w, ← n) (c .before .before .move-bytes .ensures))
+    let p = c .before .before .before .before .before .before .before .before .before .before .before .before .before .before .before .pre in
+    (rw e, rw (e, ← w, ← n) (c .before .before .move-bytes .ensures ∙ moved-inside _ _ _ _ _ (omega (arith, n, p .1 .1 .0)) (omega (arith, n, p .1 .1 .1))))
 
 same-length-3 : tie.Need-same-length-3
 same-length-3 c = search needs
@@ -58,7 +61,8 @@ returns-2 c =
     let e = ne-eqb _ 0 (c .before .before .before .before .before .if1 .left) in
     let n = c .before .before .before .before .before .before .before .before .before .before .before .cycle-length .ensures in
     let w = c .before .before .before .before .before .before .before .before .before .before .before .before .narrow .ensures in
-    (rw (e, ← w, ← n) (c .before .before .move-bytes2 .ensures), rw e)
+    let p = c .before .before .before .before .before .before .before .before .before .before .before .before .before .before .before .pre in
+    (rw (e, ← w, ← n) (c .before .before .move-bytes2 .ensures ∙ moved-inside _ _ _ _ _ (omega (arith, n, p .1 .1 .1)) (omega (arith, n, p .1 .1 .0))), rw e)
 
 pub carry-spec : {M : Type 1} → statement M
 carry-spec =

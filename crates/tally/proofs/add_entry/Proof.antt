@@ -1,5 +1,5 @@
-use borrow.Author.Needs.{needs}
 use mathlib.Core.Path.{_≡_, refl, sym, ap, _∙_}
+use borrow.Author.Needs.{needs}
 use Rattle.tally.proofs.add_entry.Statement.{statement}
 use Rattle.tally.proofs.add_entry.Tie as tie
 
@@ -9,8 +9,8 @@ enum-told c = search needs
 enum-told-2 : tie.Need-enum-told-2
 enum-told-2 c = search needs
 
-add-capped-requires : tie.Need-add-capped-requires
-add-capped-requires c κs = search needs
+add-grant-requires : tie.Need-add-grant-requires
+add-grant-requires c κs = search needs
 
 enum-known-entry : tie.Need-enum-known-entry
 enum-known-entry c = search needs
@@ -21,23 +21,20 @@ add-cycle-requires c κs = search needs
 enum-known-entry-2 : tie.Need-enum-known-entry-2
 enum-known-entry-2 c = search needs
 
-hold-figure-requires : tie.Need-hold-figure-requires
-hold-figure-requires c κs = search needs
-
-larger-of-requires : tie.Need-larger-of-requires
-larger-of-requires c κs = search needs
+add-release-requires : tie.Need-add-release-requires
+add-release-requires c κs = search needs
 
 returns : tie.Need-returns
 returns c = search needs
 
 returns-2 : tie.Need-returns-2
-returns-2 c = rw (c .before .enum-told2 .given .1, c .add-capped .ensures)
+returns-2 c = rw (c .before .enum-told2 .given .1, c .add-grant .ensures)
 
 returns-3 : tie.Need-returns-3
 returns-3 c = rw (c .before .before .entry .given .1, c .add-cycle .ensures)
 
 returns-4 : tie.Need-returns-4
-returns-4 c = rw (c .before .before .before .entry2 .given .1, c .larger-of .ensures, c .before .hold-figure .ensures)
+returns-4 c = rw (c .before .before .entry2 .given .1, c .add-release .ensures)
 
 pub add-entry-spec : {M : Type 1} → statement M
 add-entry-spec =
@@ -45,12 +42,11 @@ add-entry-spec =
     (tie.spec
     enum-told
     enum-told-2
-    add-capped-requires
+    add-grant-requires
     enum-known-entry
     add-cycle-requires
     enum-known-entry-2
-    hold-figure-requires
-    larger-of-requires
+    add-release-requires
     returns
     returns-2
     returns-3

@@ -1,0 +1,54 @@
+use Prim.Native.Nat.{ℕ, _+_, _-_, _*_, _≤_, _<_}
+use lib.ListN.{length, length-set}
+use mathlib.Core.Path.{_≡_, refl, sym, ap, _∙_}
+use native.Mathlib.Omega.{arith}
+use Rattle.benchrun.proofs.single_steps.Statement.{statement}
+use Rattle.benchrun.proofs.single_steps.Tie as tie
+
+abbrev Inv-loop : tie.InvT-loop
+Inv-loop setup slave₀ master₀ steps channel₀ tally₀ done₀ slave master channel tally done = (length slave ≡ length slave₀) × (length master ≡ length master₀)
+
+abbrev μ-loop : tie.MeasureT-loop
+μ-loop setup slave₀ master₀ steps channel₀ tally₀ done₀ slave master channel tally done = steps - done
+
+loop-holds : tie.Need-loop-holds Inv-loop μ-loop
+loop-holds c = (refl, refl)
+
+step-requires : tie.Need-step-requires Inv-loop μ-loop
+step-requires c κs = tt
+
+add-done : tie.Need-add-done Inv-loop μ-loop
+add-done c = omega (arith, c .before .before .before .before .before .before .before .before .before .loop-test .taken, c .before .before .before .before .before .before .before .before .before .before .before .before .before .before .before .fits .steps)
+
+loop-less : tie.Need-loop-less Inv-loop μ-loop
+loop-less c = omega (arith, c .before .before .before .before .before .before .before .before .before .loop-test .taken)
+
+loop-again : tie.Need-loop-again Inv-loop μ-loop
+loop-again c =
+    let l = c .before .before .before .before .before .before .before .before .before .before .loop .inv in
+    let s = c .before .before .before .before .before .before .step .kept in
+    (s .1 .1 .1 .0 ∙ l .0, s .1 .1 .1 .1 .0 ∙ l .1)
+
+same-length : tie.Need-same-length Inv-loop μ-loop
+same-length c = c .before .loop .inv .0
+
+same-length-2 : tie.Need-same-length-2 Inv-loop μ-loop
+same-length-2 c = c .before .loop .inv .1
+
+returns : tie.Need-returns Inv-loop μ-loop
+returns c = tt
+
+pub single-steps-spec : {M : Type 1} → statement M
+single-steps-spec =
+    tie.close
+    (tie.spec
+    Inv-loop
+    μ-loop
+    loop-holds
+    step-requires
+    add-done
+    loop-less
+    loop-again
+    same-length
+    same-length-2
+    returns)

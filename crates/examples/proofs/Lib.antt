@@ -1,0 +1,5 @@
+pub mod Starred
+pub mod Whole
+pub mod Instance
+pub mod Unique
+pub mod Functions

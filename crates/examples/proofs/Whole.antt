@@ -1,0 +1,233 @@
+-- Computed by the checker from the definitions: "One sheet, whole" of document 01, from the bytes of the sheet to the lines of its log; the lines that this
+-- sheet does not have; the examples of "Both sides of the line" that are not starred; and the sheet as a history of posts and steps.
+use Prim.Native.Nat.{ℕ}
+use Prim.Native.Char.{code}
+use Prim.Native.String.{String, [] as empty, _∷_ as _∷ˢ_}
+use mathlib.Core.Path.{_≡_, refl}
+use mathlib.Core.Bool.{true}
+use mathlib.Core.List.{List, [], _∷_, _++_}
+use lib.ListN.{length, replicate}
+use Rattle.basics.specs.Scan.{allBelow, anyBelow, firstFrom}
+use Rattle.cycle.specs.Cycle.{isLength, isWidth, isPort, transferTime}
+use Rattle.frame.specs.Frame.{
+  isRowCount,
+  isMasterLength,
+  levelInRange,
+  isRising,
+  isLastFifteen,
+  levelRowFits,
+  levelsFit,
+  isTime,
+  limitOf,
+  isPlaced,
+  slaveInRange,
+  areApart,
+  isApart,
+  lengthsBefore,
+  slaveRowFits,
+  slavesFit,
+  isFramed,
+}
+use Rattle.frame.specs.Find.{levelIndex, levelRow, holds, slaveIndex, slaveRow, slaveStoreLength}
+use Rattle.channel.specs.declared.Phase.the-variants.{Arbitrating, Granted}
+use Rattle.channel.specs.Channel.{fresh, hasRequest, withRequest}
+use Rattle.channel.specs.Line.{waits, drives, lineActive, asks, othersAsk, cleared, timed, winner}
+use Rattle.sound.specs.Rows.{isPresent, levelOf, slaveOf, startOf}
+use Rattle.sound.specs.Request.{isInRange, requestVerdict, transferOf}
+use Rattle.sound.specs.Sound.{
+  allowance,
+  isWithin,
+  isGrantSound,
+  isOwnerSound,
+  isBlank,
+  isRequestSound,
+  areRequestsSound,
+  isMarkSound,
+  areMarksSound,
+  isInTime,
+  isAskedAt,
+  isAskedSound,
+  isSound,
+}
+use Rattle.post.specs.Post.{postVerdict, posted, postOf}
+use Rattle.act.specs.Cycle.{
+  pathOf,
+  restAfter,
+  slotAfter,
+  isLate,
+  isLeaving,
+  endingOf,
+  clocked,
+  freed,
+  movedOn,
+  cycleEntry,
+  cycleTurn,
+}
+use Rattle.act.specs.Turn.{arbitrationTime, granted, grantTurn, leaveTurn}
+use Rattle.tally.specs.Tally.{addGrant, addCycle, addRelease}
+use Rattle.step.specs.Plan.{ownerPlan, actPlan, readyVerdict, planOf}
+use Rattle.step.specs.Step.{stepOf, placeFor, movedSlave, movedMaster, slaveAfter, masterAfter}
+use Rattle.run.specs.Run.{world, after}
+use Rattle.logline.specs.Line.{cycleText}
+use Rattle.number.specs.Number.{readAt, bytesOf}
+use Rattle.sheet.specs.declared.Judged.the-variants.{Good}
+use Rattle.sheet.specs.Sheet.{listAt, between, counted, stepCount, event, countedEvents, body, sheet, numbersOf, allBytes}
+use Rattle.sheetlist.specs.Held.{
+  levelCount,
+  slavesFrom,
+  slaveCount,
+  eventsFrom,
+  eventCount,
+  levelsOf,
+  slavesOf,
+  setupOf,
+  eventAt,
+  nextEvent,
+  eventFrom,
+  eventOf,
+}
+use Rattle.sheetlist.specs.declared.Event.the-variants.{Steps, Post}
+use Rattle.demands.specs.History.{noTally, after as afterActs}
+use Rattle.demands.specs.Log.{logOf}
+use Rattle.demands.specs.Waiting.{nobody, since, firstOver}
+use Rattle.examples.specs.Printed.{bytesFrom, begun, eventsOf, eventsPrint, sheetPrint}
+use Rattle.examples.specs.Sheet.{input, list, setup, postFields, first, second, events, output}
+use Rattle.examples.specs.Instance.{slave, master, begin, before, until, acts, entries}
+use Rattle.examples.specs.Bursts.{askedAtGrant, askedLater, figures}
+
+-- the bytes of lines, each with its end
+codes : String → List ℕ
+codes empty = 10 ∷ []
+codes (c ∷ˢ text) = code c ∷ codes text
+
+bytes : List String → List ℕ
+bytes [] = []
+bytes (text ∷ lines) = codes text ++ bytes lines
+
+-- the sheet is good to its end; it has these numbers, and they are written as these bytes; they hold this set-up and these events, the last of which
+-- ends where the list ends; and this is what sheetrun prints
+record Whole : Type 0 where
+  good : sheet (readAt input) (length input) ≡ Good 40
+  read : numbersOf input ≡ list
+  written : allBytes list ≡ input
+  held : setupOf list 4096 ≡ setup
+  happens : eventsOf list ≡ events
+  ends : eventFrom list 4 ≡ length list
+  log : sheetPrint input ≡ bytes output
+
+-- the lines that the sheet does not have, and a choice that it does not have to make: our own events, over its set-up
+record Lines : Type 0 where
+  -- an empty sheet
+  bad : sheetPrint [] ≡ bytes ("S 10 0" ∷ [])
+  -- level 15 owns the channel without a request: idle, and then a release
+  idle : eventsPrint setup (Steps 2 ∷ Post first ∷ Steps 2 ∷ []) (begun setup)
+      ≡ bytes ("G 100 15" ∷ "I 100" ∷ "P 100 3 0" ∷ "R 100 15" ∷ "G 200 3" ∷ "E 200 0" ∷ [])
+  -- two levels wait: the lowest-numbered wins
+  lowest : eventsPrint setup (Post second ∷ Post first ∷ Steps 1 ∷ []) (begun setup)
+      ≡ bytes ("P 0 7 0" ∷ "P 0 3 0" ∷ "G 100 3" ∷ "E 100 0" ∷ [])
+  -- the clock would pass 4,000,000,000: the event ends there, the next goes on
+  stops : eventsPrint setup (Post first ∷ Steps 3 ∷ Post second ∷ []) (world (clocked fresh 3999999800) noTally (replicate 16 0) (replicate 4096 0))
+      ≡ bytes ("P 3999999800 3 0" ∷ "G 3999999900 3" ∷ "X 3999999900 6" ∷ "P 3999999900 7 0" ∷ "E 3999999900 0" ∷ [])
+  -- level 7 asks inside a transfer of level 3, which does not linger: nothing is released before its end
+  not-torn : eventsPrint setup (Post first ∷ Steps 1 ∷ Post second ∷ Steps 2 ∷ []) (begun setup)
+      ≡ bytes ("P 0 3 0" ∷ "G 100 3" ∷ "P 100 7 0" ∷ "C 300 3 4097 1 1 1 1 0" ∷ "C 500 3 4098 2 1 2 0 2" ∷ "E 500 3" ∷ [])
+  -- "Post at address 4,294,967,295, length 4,096: refusal 4, nothing wraps."
+  wraps-not : eventsPrint setup (Post (postFields 3 1 1 4294967295 4096 0) ∷ []) (begun setup) ≡ bytes ("P 0 3 4" ∷ "E 0 0" ∷ [])
+
+-- "A lingering burst asked at its grant ..: 39 transfers at 200 ns, 26 at 300 ns, hold 7,800 both times. W 4, P 1, 1,950 ns: one transfer, hold 7,800.":
+-- one cycle earlier the channel is still granted. The last is ours: asked two cycles after its grant, the 7,800 ns count from there.
+record Bursts : Type 0 where
+  before-39 : askedAtGrant 4 200 38 .channel .phase ≡ Granted 3
+  at-39 : askedAtGrant 4 200 39 .channel .phase ≡ Arbitrating
+  hold-39 : askedAtGrant 4 200 39 .tally ≡ figures 39 156 7800
+  before-26 : askedAtGrant 4 300 25 .channel .phase ≡ Granted 3
+  at-26 : askedAtGrant 4 300 26 .channel .phase ≡ Arbitrating
+  hold-26 : askedAtGrant 4 300 26 .tally ≡ figures 26 104 7800
+  before-one : askedAtGrant 1 1950 3 .channel .phase ≡ Granted 3
+  at-one : askedAtGrant 1 1950 4 .channel .phase ≡ Arbitrating
+  hold-one : askedAtGrant 1 1950 4 .tally ≡ figures 4 4 7800
+  before-later : askedLater 4 300 2 25 .channel .phase ≡ Granted 3
+  at-later : askedLater 4 300 2 26 .channel .phase ≡ Arbitrating
+  hold-later : askedLater 4 300 2 26 .tally ≡ figures 28 112 7800
+
+-- the sheet as a history: the hypotheses of demand 3's theorems, the log and the stores
+pub record History : Type 0 where
+  -- sheetrun begins where it begins
+  pub begins : begun setup ≡ world fresh noTally slave master
+  pub framed : isFramed setup ≡ true
+  pub slave-length : length slave ≡ slaveStoreLength (setup .slaves)
+  pub master-length : length master ≡ setup .master
+  pub log : logOf setup begin acts ≡ entries
+  pub slave-then : afterActs setup begin acts .slave ≡ 0 ∷ 0 ∷ 1 ∷ 2 ∷ 3 ∷ 4 ∷ 5 ∷ 6 ∷ replicate 8 0
+  pub master-then : afterActs setup begin acts .master ≡ bytesFrom 0 16 ++ (0 ∷ 0 ∷ bytesFrom 18 4078)
+  pub owner : afterActs setup begin before .channel .phase ≡ Granted 3
+  pub request : hasRequest (afterActs setup begin before .channel .left) 3 ≡ true
+  pub owner-until : afterActs setup begin until .channel .phase ≡ Granted 3
+  pub first-moment : firstOver setup begin nobody until ≡ since 300
+
+computed : Whole × (Lines × (Bursts × History))
+unfolding codes bytes
+    sheetPrint sheet body counted countedEvents event stepCount between numbersOf readAt bytesOf listAt
+    levelCount slavesFrom slaveCount eventsFrom eventCount levelsOf slavesOf setupOf eventAt nextEvent eventFrom eventOf
+    allBelow anyBelow firstFrom isLength isWidth isPort transferTime
+    isRowCount isMasterLength levelInRange isRising isLastFifteen levelRowFits levelsFit isTime limitOf isPlaced slaveInRange areApart isApart
+    lengthsBefore slaveRowFits slavesFit isFramed levelIndex levelRow holds slaveIndex slaveRow slaveStoreLength
+    withRequest waits drives lineActive asks othersAsk cleared timed winner
+    isPresent levelOf slaveOf startOf isInRange requestVerdict transferOf allowance isWithin isGrantSound isOwnerSound isBlank isRequestSound
+    areRequestsSound isMarkSound areMarksSound isInTime isAskedAt isAskedSound isSound
+    postVerdict posted postOf
+    pathOf restAfter slotAfter isLate isLeaving endingOf clocked freed movedOn cycleEntry cycleTurn arbitrationTime granted grantTurn leaveTurn
+    addGrant addCycle addRelease ownerPlan actPlan readyVerdict planOf stepOf placeFor movedSlave movedMaster slaveAfter masterAfter after cycleText
+computed = (
+  record {
+    good = refl;
+    read = refl;
+    written = refl;
+    held = refl;
+    happens = refl;
+    ends = refl;
+    log = refl;
+  },
+  (
+    record {
+      bad = refl;
+      idle = refl;
+      lowest = refl;
+      stops = refl;
+      not-torn = refl;
+      wraps-not = refl;
+    },
+    (
+      record {
+        before-39 = refl;
+        at-39 = refl;
+        hold-39 = refl;
+        before-26 = refl;
+        at-26 = refl;
+        hold-26 = refl;
+        before-one = refl;
+        at-one = refl;
+        hold-one = refl;
+        before-later = refl;
+        at-later = refl;
+        hold-later = refl;
+      },
+      record {
+        begins = refl;
+        framed = refl;
+        slave-length = refl;
+        master-length = refl;
+        log = refl;
+        slave-then = refl;
+        master-then = refl;
+        owner = refl;
+        request = refl;
+        owner-until = refl;
+        first-moment = refl;
+      },
+    ),
+  ),
+)
+
+pub history : History
+history = computed .1 .1 .1

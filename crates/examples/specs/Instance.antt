@@ -1,0 +1,52 @@
+-- The sheet of document 01 as a history of posts and steps: where it starts, its acts, and the entries of its log.
+use Prim.Native.Nat.{ℕ}
+use mathlib.Core.List.{List, [], _∷_, _++_}
+use lib.ListN.{replicate}
+use Rattle.channel.specs.Channel.{fresh}
+use Rattle.act.specs.declared.Hold.the-variants.{Unasked}
+use Rattle.act.specs.declared.Ending.{Ending}
+use Rattle.act.specs.declared.Ending.the-variants.{Kept, Released, Marked}
+use Rattle.act.specs.declared.Entry.{Entry}
+use Rattle.act.specs.declared.Entry.the-variants.{Grant, Cycle}
+use Rattle.demands.specs.History.{Moment, Act, posts, steps}
+use Rattle.examples.specs.Printed.{orderOf, bytesFrom}
+use Rattle.examples.specs.Sheet.{first, second}
+
+abbrev pub slave : List ℕ
+slave = replicate 16 0
+
+abbrev pub master : List ℕ
+master = bytesFrom 0 4096
+
+abbrev pub begin : Moment
+begin = record { channel = fresh; slave = slave; master = master }
+
+-- the sheet's events: a post, two steps, a post that comes while level 3 owns the channel inside a transfer, and seven steps
+abbrev pub before : List Act
+before = posts (orderOf first) ∷ steps ∷ []
+
+abbrev pub until : List Act
+until = posts (orderOf first) ∷ steps ∷ steps ∷ posts (orderOf second) ∷ []
+
+abbrev pub later : List Act
+later = steps ∷ steps ∷ steps ∷ steps ∷ steps ∷ steps ∷ steps ∷ []
+
+abbrev pub acts : List Act
+acts = until ++ later
+
+abbrev pub cycle : ℕ → ℕ → ℕ → ℕ → ℕ → ℕ → ℕ → Ending → Entry
+cycle clock l a n d m s ending =
+    Cycle (record { clock = clock; level = l; address = a; bytes = n; direction = d; master = m; slave = s; ending = ending })
+
+abbrev pub entries : List Entry
+entries =
+    Grant 100 3
+    ∷ cycle 300 3 4097 1 1 1 1 Kept
+    ∷ cycle 500 3 4098 2 1 2 0 (Marked 200)
+    ∷ Grant 600 7
+    ∷ cycle 800 7 4096 2 0 0 0 (Marked 200)
+    ∷ Grant 900 3
+    ∷ cycle 1100 3 4100 2 1 0 0 Kept
+    ∷ cycle 1300 3 4102 2 1 2 0 (Released Unasked)
+    ∷ Grant 1400 15
+    ∷ []

@@ -1,0 +1,4 @@
+pub mod Printed
+pub mod Sheet
+pub mod Bursts
+pub mod Instance

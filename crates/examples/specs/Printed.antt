@@ -1,0 +1,100 @@
+-- Document 01, "One sheet, whole": what the program sheetrun prints for the bytes of a sheet.
+use Prim.Native.Nat.{ℕ, zero, suc, _%_}
+use mathlib.Core.List.{List, [], _∷_, _++_}
+use lib.ListN.{length, replicate}
+use Rattle.refusal.specs.Refusal.{numberOf, verdictNumber}
+use Rattle.number.specs.Number.{readAt}
+use Rattle.frame.specs.declared.Setup.{Setup}
+use Rattle.frame.specs.Find.{slaveStoreLength}
+use Rattle.channel.specs.declared.Judged.{Judged}
+use Rattle.channel.specs.Channel.{fresh}
+use Rattle.post.specs.declared.Order.{Order}
+use Rattle.post.specs.Post.{postOf}
+use Rattle.step.specs.declared.StepAnswer.{StepAnswer}
+use Rattle.step.specs.declared.StepAnswer.the-variants.{Done, Refused}
+use Rattle.run.specs.Run.{World, world, stepIn, after}
+use Rattle.logline.specs.Line.{entryText, postText, stopText, endText, faultText}
+use Rattle.sheet.specs.declared.Judged.{Judged as Verdict}
+use Rattle.sheet.specs.declared.Judged.the-variants.{Good, Fault}
+use Rattle.sheet.specs.Sheet.{sheet, numbersOf}
+use Rattle.sheetlist.specs.declared.PostFields.{PostFields}
+use Rattle.sheetlist.specs.declared.Event.{Event}
+use Rattle.sheetlist.specs.declared.Event.the-variants.{Steps, Post}
+use Rattle.demands.specs.History.{noTally}
+use Rattle.sheetlist.specs.Held.{setupOf, eventCount, eventOf}
+
+-- what is printed, and the channel, the tally and the stores behind it
+pub record Printed : Type 0 where
+  pub text : List ℕ
+  pub world : World
+
+abbrev pub printed : List ℕ → World → Printed
+printed text w = record { text = text; world = w }
+
+-- a step has the line of its entry; "X clock 6 (the event ends there, the next goes on)"
+abbrev pub stepThen : StepAnswer → World → Printed → Printed
+stepThen (Done entry) w rest = printed (entryText entry ++ rest .text) (rest .world)
+stepThen (Refused why) w rest = printed (stopText (w .channel .clock)) w
+
+abbrev pub stepsPrint : Setup → ℕ → World → Printed
+stepsPrint setup zero w = printed [] w
+stepsPrint setup (suc left) w = stepThen (stepIn setup w .answer) w (stepsPrint setup left (after setup w))
+
+-- "P: level, refusal or 0.", behind "the clock afterwards"
+abbrev pub orderOf : PostFields → Order
+orderOf p =
+    record {
+      level = p .level;
+      direction = p .direction;
+      space = p .space;
+      address = p .address;
+      length = p .length;
+      offset = p .offset;
+    }
+
+abbrev pub judgedPrint : ℕ → Judged → World → Printed
+judgedPrint level j w =
+    printed (postText (j .channel .clock) level (verdictNumber (j .verdict))) (world (j .channel) (w .tally) (w .slave) (w .master))
+
+abbrev pub eventPrint : Setup → Event → World → Printed
+eventPrint setup (Post p) w = judgedPrint (p .level) (postOf setup (w .channel) (orderOf p)) w
+eventPrint setup (Steps steps) w = stepsPrint setup steps w
+
+-- the events in their order; then "E: bytes moved."
+abbrev pub eventsPrint : Setup → List Event → World → List ℕ
+eventsPrint setup [] w = endText (w .channel .clock) (w .tally .bytes)
+eventsPrint setup (e ∷ events) w = eventPrint setup e w .text ++ eventsPrint setup events (eventPrint setup e w .world)
+
+-- the channel, the tally and the stores behind events
+abbrev pub behind : Setup → List Event → World → World
+behind setup [] w = w
+behind setup (e ∷ events) w = behind setup events (eventPrint setup e w .world)
+
+-- the events of a list from the i-th on, so many of them
+abbrev pub eventsFrom : List ℕ → ℕ → ℕ → List Event
+eventsFrom list i zero = []
+eventsFrom list i (suc left) = eventOf list i ∷ eventsFrom list (suc i) left
+
+abbrev pub eventsOf : List ℕ → List Event
+eventsOf list = eventsFrom list 0 (eventCount list)
+
+-- "Master store: 4,096 bytes, byte i being i mod 251": so many bytes from byte i on
+abbrev pub bytesFrom : ℕ → ℕ → List ℕ
+bytesFrom i zero = []
+bytesFrom i (suc left) = (i % 251) ∷ bytesFrom (suc i) left
+
+-- the fresh channel, "slave store zero", and a tally of nothing
+abbrev pub begun : Setup → World
+begun setup = world fresh noTally (replicate (slaveStoreLength (setup .slaves)) 0) (bytesFrom 0 4096)
+
+-- the numbers of a good sheet
+abbrev pub listPrint : List ℕ → List ℕ
+listPrint list = eventsPrint (setupOf list 4096) (eventsOf list) (begun (setupOf list 4096))
+
+-- "A bad sheet prints only S, number, place."
+abbrev pub verdictPrint : Verdict → List ℕ → List ℕ
+verdictPrint (Good end) list = listPrint list
+verdictPrint (Fault why place) list = faultText (numberOf why) place
+
+unfoldable pub sheetPrint : List ℕ → List ℕ
+sheetPrint bytes = verdictPrint (sheet (readAt bytes) (length bytes)) (numbersOf bytes)

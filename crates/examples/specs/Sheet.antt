@@ -1,0 +1,75 @@
+-- Document 01, "One sheet, whole": the sheet, what it holds, and its log.
+use Prim.Native.Nat.{ℕ}
+use Prim.Native.String.{String}
+use mathlib.Core.List.{List, [], _∷_, _++_}
+use lib.ListN.{replicate}
+use Rattle.frame.specs.declared.LevelRow.{LevelRow}
+use Rattle.frame.specs.declared.SlaveRow.{SlaveRow}
+use Rattle.frame.specs.declared.Setup.{Setup}
+use Rattle.frame.specs.Frame.{noLevel, noSlave}
+use Rattle.sheetlist.specs.declared.PostFields.{PostFields}
+use Rattle.sheetlist.specs.declared.Event.{Event}
+use Rattle.sheetlist.specs.declared.Event.the-variants.{Steps, Post}
+
+-- "Input, in hex"
+abbrev pub input : List ℕ
+input =
+    0x01 ∷ 0x03 ∷ 0x03 ∷ 0x04 ∷ 0x03 ∷ 0x07 ∷ 0x02 ∷ 0x02 ∷ 0x0f ∷ 0x04
+    ∷ 0x00 ∷ 0x01 ∷ 0x01 ∷ 0x80 ∷ 0x20 ∷ 0x10 ∷ 0x02 ∷ 0xc8 ∷ 0x01 ∷ 0x04
+    ∷ 0x01 ∷ 0x03 ∷ 0x01 ∷ 0x01 ∷ 0x81 ∷ 0x20 ∷ 0x07 ∷ 0x00 ∷ 0x00 ∷ 0x02
+    ∷ 0x01 ∷ 0x07 ∷ 0x00 ∷ 0x01 ∷ 0x80 ∷ 0x20 ∷ 0x02 ∷ 0x10 ∷ 0x00 ∷ 0x07 ∷ []
+
+-- its numbers
+abbrev pub list : List ℕ
+list =
+    1 ∷ 3 ∷ 3 ∷ 4 ∷ 3 ∷ 7 ∷ 2 ∷ 2 ∷ 15 ∷ 4 ∷ 0 ∷ 1 ∷ 1 ∷ 4096 ∷ 16 ∷ 2 ∷ 200 ∷ 4
+    ∷ 1 ∷ 3 ∷ 1 ∷ 1 ∷ 4097 ∷ 7 ∷ 0 ∷ 0 ∷ 2 ∷ 1 ∷ 7 ∷ 0 ∷ 1 ∷ 4096 ∷ 2 ∷ 16 ∷ 0 ∷ 7 ∷ []
+
+abbrev pub levelRow : ℕ → ℕ → ℕ → LevelRow
+levelRow l w o = record { level = l; width = w; options = o }
+
+abbrev pub slaveRow : ℕ → ℕ → ℕ → ℕ → ℕ → SlaveRow
+slaveRow s b l p t = record { space = s; base = b; length = l; port = p; time = t }
+
+-- its set-up: levels 3 (burst, fair), 7 (fair) and 15, and a slave of 16 bytes with a port of 2
+abbrev pub setup : Setup
+setup =
+    record {
+      levels =
+          record {
+            rows = levelRow 3 4 3 ∷ levelRow 7 2 2 ∷ levelRow 15 4 0 ∷ replicate 13 noLevel;
+            count = 3;
+          };
+      slaves = record { rows = slaveRow 1 4096 16 2 200 ∷ replicate 15 noSlave; count = 1 };
+      master = 4096;
+    }
+
+abbrev pub postFields : ℕ → ℕ → ℕ → ℕ → ℕ → ℕ → PostFields
+postFields l d s a n o = record { level = l; direction = d; space = s; address = a; length = n; offset = o }
+
+abbrev pub first : PostFields
+first = postFields 3 1 1 4097 7 0
+
+abbrev pub second : PostFields
+second = postFields 7 0 1 4096 2 16
+
+-- its events
+abbrev pub events : List Event
+events = Post first ∷ Steps 2 ∷ Post second ∷ Steps 7 ∷ []
+
+-- "Output"
+abbrev pub output : List String
+output =
+    "P 0 3 0"
+    ∷ "G 100 3"
+    ∷ "C 300 3 4097 1 1 1 1 0"
+    ∷ "P 300 7 0"
+    ∷ "C 500 3 4098 2 1 2 0 2"
+    ∷ "G 600 7"
+    ∷ "C 800 7 4096 2 0 0 0 2"
+    ∷ "G 900 3"
+    ∷ "C 1100 3 4100 2 1 0 0 0"
+    ∷ "C 1300 3 4102 2 1 2 0 1"
+    ∷ "G 1400 15"
+    ∷ "E 1400 9"
+    ∷ []

@@ -1,0 +1,55 @@
+use Prim.Native.Nat.{_-_, _≤_}
+use Rattle.basics.specs.Scan.{allBelow}
+use Rattle.sound.specs.Tables.{isBlankAt, areBlank}
+use mathlib.Core.Path.{_≡_, refl}
+use native.Mathlib.Numerals.{add-one}
+use native.Mathlib.Omega.{arith}
+use Rattle.sound.proofs.are_blank.Statement.{statement}
+use Rattle.sound.proofs.are_blank.Tie as tie
+
+abbrev Inv-loop : tie.InvT-loop
+Inv-loop direction space address left offset all₀ level₀ all level =
+    (level ≤ 16) × (all ≡ allBelow (isBlankAt direction space address left offset) level)
+
+abbrev μ-loop : tie.MeasureT-loop
+μ-loop direction space address left offset all₀ level₀ all level = 16 - level
+
+loop-holds : tie.Need-loop-holds Inv-loop μ-loop
+unfolding allBelow
+loop-holds c = (omega arith, refl)
+
+request-at-requires : tie.Need-request-at-requires Inv-loop μ-loop
+request-at-requires c κs = omega arith
+
+is-blank-requires : tie.Need-is-blank-requires Inv-loop μ-loop
+is-blank-requires c κs = tt
+
+add-level : tie.Need-add-level Inv-loop μ-loop
+add-level c = omega arith
+
+loop-less : tie.Need-loop-less Inv-loop μ-loop
+loop-less c = omega arith
+
+loop-again : tie.Need-loop-again Inv-loop μ-loop
+unfolding allBelow
+loop-again c =
+    let l = c .before .before .before .before .loop in
+    (omega arith, rw (add-one (l .level), l .inv .1, c .is-blank .ensures, c .before .before .request-at .ensures))
+
+returns : tie.Need-returns Inv-loop μ-loop
+unfolding areBlank
+returns c = let e : c .before .loop .level ≡ 16 = omega arith in rw e at (c .before .loop .inv .1)
+
+pub are-blank-spec : {M : Type 1} → statement M
+are-blank-spec =
+    tie.close
+    (tie.spec
+    Inv-loop
+    μ-loop
+    loop-holds
+    request-at-requires
+    is-blank-requires
+    add-level
+    loop-less
+    loop-again
+    returns)

@@ -1,0 +1,112 @@
+use Prim.Native.Nat.{_+_, _-_, _≤_}
+use Rattle.frame.specs.Frame.{present as presentRows}
+use Rattle.sound.proofs.TableLaws.{TellsFrom, tells-none, tells-more, tells-same, tells-all}
+use Rattle.sound.specs.Rows.{isLevel}
+use Rattle.sound.specs.Tables.{isFairRow}
+use lib.ListN.{length, length-set, replicate, getD-replicate}
+use mathlib.Core.Bool.{true, false}
+use mathlib.Core.Logic.{⊎-elim}
+use mathlib.Core.Path.{_≡_, refl, _∙_}
+use native.Mathlib.Omega.{arith}
+use Rattle.sound.proofs.members_of.Statement.{statement}
+use Rattle.sound.proofs.members_of.Tie as tie
+
+abbrev Inv-loop : tie.InvT-loop
+Inv-loop levels present₀ fair₀ i₀ present fair i =
+    (i ≤ presentRows (levels .count)) × (length present ≡ 16) × (length fair ≡ 16)
+    × TellsFrom levels isLevel i present × TellsFrom levels isFairRow i fair
+
+abbrev μ-loop : tie.MeasureT-loop
+μ-loop levels present₀ fair₀ i₀ present fair i = i
+
+loop-holds : tie.Need-loop-holds Inv-loop μ-loop
+loop-holds c =
+    let a = c .before .args .t1 in
+    let e : c .if1 .i ≡ presentRows (a .count) = ⊎-elim (λ w. omega (arith, w)) (λ w. omega (arith, w)) (c .if1 .came) in (
+      omega (arith, e),
+      refl,
+      refl,
+      tells-none a isLevel (replicate 16 false) _ (omega (arith, e)) (λ l k. getD-replicate 16 l false false k),
+      tells-none a isFairRow (replicate 16 false) _ (omega (arith, e)) (λ l k. getD-replicate 16 l false false k),
+    )
+
+sub-i : tie.Need-sub-i Inv-loop μ-loop
+sub-i c = omega arith
+
+mul-row : tie.Need-mul-row Inv-loop μ-loop
+mul-row c = omega arith
+
+element-copy-out-row : tie.Need-element-copy-out-row Inv-loop μ-loop
+element-copy-out-row c = omega arith
+
+cast-at : tie.Need-cast-at Inv-loop μ-loop
+cast-at c = omega arith
+
+array-write-present : tie.Need-array-write-present Inv-loop μ-loop
+array-write-present c = omega arith
+
+is-fair-requires : tie.Need-is-fair-requires Inv-loop μ-loop
+is-fair-requires c κs = tt
+
+array-write-fair : tie.Need-array-write-fair Inv-loop μ-loop
+array-write-fair c = omega arith
+
+loop-less : tie.Need-loop-less Inv-loop μ-loop
+loop-less c = omega arith
+
+loop-again : tie.Need-loop-again Inv-loop μ-loop
+loop-again c =
+    let l = c .before .before .before .before .before .before .before .loop in
+    let a = c .before .before .before .before .before .before .before .before .before .args .t1 in
+    let e : l .i - 1 + 1 ≡ l .i = omega arith in (
+      omega arith,
+      length-set (l .present) _ true ∙ l .inv .1,
+      length-set (l .fair) _ (c .is-fair .result) ∙ l .inv .2,
+      tells-more a isLevel (l .present) (l .i - 1) (omega arith) (l .inv .1) (omega arith) (rw e (l .inv .3)),
+      rw (c .is-fair .ensures) (tells-more a isFairRow (l .fair) (l .i - 1) (omega arith) (l .inv .2) (omega arith) (rw e (l .inv .4))),
+    )
+
+loop-less-2 : tie.Need-loop-less-2 Inv-loop μ-loop
+loop-less-2 c = omega arith
+
+loop-again-2 : tie.Need-loop-again-2 Inv-loop μ-loop
+loop-again-2 c =
+    let l = c .before .before .before .before .before .loop in
+    let a = c .before .before .before .before .before .before .before .args .t1 in
+    let e : l .i - 1 + 1 ≡ l .i = omega arith in (
+      omega arith,
+      l .inv .1,
+      l .inv .2,
+      tells-same a isLevel (l .present) (l .i - 1) (omega arith) (omega arith) (rw e (l .inv .3)),
+      tells-same a isFairRow (l .fair) (l .i - 1) (omega arith) (omega arith) (rw e (l .inv .4)),
+    )
+
+returns : tie.Need-returns Inv-loop μ-loop
+returns c =
+    let l = c .before .loop in
+    let a = c .before .before .before .args .t1 in
+    let e : l .i ≡ 0 = omega arith in
+    record {
+      present = tells-all a isLevel (l .present) (rw e at (l .inv .3));
+      fair = tells-all a isFairRow (l .fair) (rw e at (l .inv .4));
+    }
+
+pub members-of-spec : {M : Type 1} → statement M
+members-of-spec =
+    tie.close
+    (tie.spec
+    Inv-loop
+    μ-loop
+    loop-holds
+    sub-i
+    mul-row
+    element-copy-out-row
+    cast-at
+    array-write-present
+    is-fair-requires
+    array-write-fair
+    loop-less
+    loop-again
+    loop-less-2
+    loop-again-2
+    returns)
