@@ -3,21 +3,26 @@
 .PHONY: run test compare bench prove clean
 SHEET = examples/whole.sheet
 N = 100000
+# proves and builds what is named, or all, and is silent unless it fails
+proved = mkdir -p target && { rt check $(1) >target/said 2>&1 || { cat target/said; false; }; }
 SEED = 1
 
-run: prove
+run:
+	@$(call proved,sheetrun)
 	@tests/run-program target/bin/sheetrun <$(SHEET)
 
 prove:
-	@mkdir -p target && { rt check >target/said 2>&1 || { cat target/said; false; }; }
+	@$(call proved,)
 
 test:
 	@tests/gate
 
-compare: prove
+compare:
+	@$(call proved,sheetrun)
 	@tests/compare $(N) $(SEED)
 
-bench: prove
+bench:
+	@$(call proved,sheetrun benchrun)
 	@bench/bench
 
 clean:

@@ -82,6 +82,16 @@ releasedBy options (At t) clock = cond (isFair options) (Marked (clock - t)) (Re
 unfoldable pub endingOf : Path → Asked → ℕ → Request → Ending
 endingOf path asked clock rest = cond (isLeaving path asked clock rest) (releasedBy (path .options) asked clock) Kept
 
+abbrev pub isKept : Ending → Bool
+isKept Kept = true
+isKept (Released hold) = false
+isKept (Marked hold) = false
+
+abbrev pub isMarked : Ending → Bool
+isMarked Kept = false
+isMarked (Released hold) = false
+isMarked (Marked hold) = true
+
 -- the channel at another clock
 unfoldable pub clocked : Channel → ℕ → Channel
 clocked ch clock =

@@ -12,8 +12,8 @@ use Rattle.act.specs.declared.Turned.{Turned}
 use Rattle.act.specs.Cycle.{freed}
 
 -- "The clock grows by 100 (002, T44)."
-unfoldable pub arbitrationTime : Channel → ℕ
-arbitrationTime ch = 100
+unfoldable pub arbitrationTime : ℕ
+arbitrationTime = 100
 
 -- "The clock grows by 100 (002, T44). The winner is the owner, with no asked time until the line rule sets one."
 unfoldable pub granted : Channel → ℕ → Channel
@@ -21,7 +21,7 @@ granted ch winner =
     record {
       phase = Granted winner;
       asked = Never;
-      clock = ch .clock + arbitrationTime ch;
+      clock = ch .clock + arbitrationTime;
       inactive = ch .inactive;
       direction = ch .direction;
       space = ch .space;
@@ -32,7 +32,7 @@ granted ch winner =
 
 unfoldable pub grantTurn : Channel → ℕ → Turned
 grantTurn ch winner =
-    record { channel = lineRule (granted ch winner); entry = Grant (ch .clock + arbitrationTime ch) winner }
+    record { channel = lineRule (granted ch winner); entry = Grant (ch .clock + arbitrationTime) winner }
 
 -- "the clock less the asked time or that there was none"
 abbrev pub holdOf : Asked → ℕ → Hold

@@ -1,13 +1,13 @@
 // The decisions of a step (document 01, "One step"): where a request's bytes go, whether the owner releases at the end of a
-// transfer and is marked, how long an arbitration takes, and the release without a request. Log entries are declared here.
+// transfer and is marked, how long an arbitration takes. Log entries are declared here.
 use channel::Asked;
 use channel::Channel;
-use channel::Phase;
 use channel::Request;
+use frame::FoundSlave;
 use frame::Setup;
 ghost use mathlib.Core.Path.{_≡_};
-ghost use Rattle.act.specs.Cycle.{pathOf, slotAfter, isLate, isLeaving, releasedBy, endingOf, freed, endedBy, markedAt};
-ghost use Rattle.act.specs.Turn.{arbitrationTime, holdOf, leaveTurn};
+ghost use Rattle.act.specs.Cycle.{pathOf, slotAfter, isLate, isLeaving, releasedBy, endingOf, isKept, isMarked};
+ghost use Rattle.act.specs.Turn.{arbitrationTime};
 
 // Where the owner's bytes go: what its row and the slave's say, and where the slave row's bytes start in the slave store.
 pub struct Path {
@@ -52,29 +52,40 @@ pub enum Entry {
     Release(u32, u8, Hold),
 }
 
-// A step that was taken: the channel after it, and its entry.
+// A step that was taken: the channel after it, and its entry. The definitions speak of it.
 pub struct Turned {
     pub channel: Channel,
     pub entry: Entry,
 }
 
-// The path of a level's request.
+// The path of a level's request: one search finds the slave row and where its bytes start.
 pub fn path_of(setup: Setup, owner: u32, request: Request) -> Path
     ensures { λ r. ⌜ r ≡ pathOf setup owner request ⌝ }
 {
     let levels = setup.levels;
     let slaves = setup.slaves;
     let row = sound::level_of(levels, owner);
-    let slave = sound::slave_of(slaves, request);
-    let start = sound::start_of(slaves, request);
-    Path {
-        width: row.width,
-        options: row.options,
-        port: slave.port,
-        time: slave.time,
-        base: slave.base,
-        start: start,
-        allowed: sound::allowance_of(setup),
+    let allowed = sound::allowance_of(setup);
+    let found = frame::slave_row(slaves, request.space, request.address, request.left);
+    match found {
+        FoundSlave::Missing => Path {
+            width: row.width,
+            options: row.options,
+            port: 0,
+            time: 0,
+            base: 0,
+            start: 0,
+            allowed: allowed,
+        },
+        FoundSlave::Row(slave, start) => Path {
+            width: row.width,
+            options: row.options,
+            port: slave.port,
+            time: slave.time,
+            base: slave.base,
+            start: start,
+            allowed: allowed,
+        },
     }
 }
 
@@ -149,83 +160,31 @@ pub fn ending_of(path: Path, asked: Asked, clock: u32, rest: Request) -> Ending
     Ending::Kept
 }
 
-// The channel is then arbitrating.
-pub fn free(channel: Channel, inactive: [bool; 16]) -> Channel
-    ensures { λ r. ⌜ r ≡ freed channel inactive ⌝ }
+// The owner keeps the channel.
+pub fn is_kept(ending: Ending) -> bool
+    ensures { λ r. ⌜ r ≡ isKept ending ⌝ }
 {
-    let direction = channel.direction;
-    let space = channel.space;
-    let address = channel.address;
-    let left = channel.left;
-    let offset = channel.offset;
-    Channel {
-        phase: Phase::Arbitrating,
-        asked: Asked::Never,
-        clock: channel.clock,
-        inactive: inactive,
-        direction: direction,
-        space: space,
-        address: address,
-        left: left,
-        offset: offset,
-    }
-}
-
-// An inactive mark.
-pub fn mark(inactive: [bool; 16], owner: usize) -> [bool; 16]
-    ensures { λ r. ⌜ r ≡ markedAt inactive owner ⌝ }
-{
-    if 16 <= owner {
-        return inactive;
-    }
-    let mut marks = inactive;
-    marks[owner] = true;
-    marks
-}
-
-// The channel at the end of a cycle.
-pub fn ended_by(ending: Ending, channel: Channel, owner: usize) -> Channel
-    ensures { λ r. ⌜ r ≡ endedBy ending channel owner ⌝ }
-{
-    let inactive = channel.inactive;
     match ending {
-        Ending::Kept => channel,
-        Ending::Released(_) => free(channel, inactive),
-        Ending::Marked(_) => {
-            let marks = mark(inactive, owner);
-            free(channel, marks)
-        }
+        Ending::Kept => true,
+        Ending::Released(_) => false,
+        Ending::Marked(_) => false,
+    }
+}
+
+// The owner is marked inactive.
+pub fn is_marked(ending: Ending) -> bool
+    ensures { λ r. ⌜ r ≡ isMarked ending ⌝ }
+{
+    match ending {
+        Ending::Kept => false,
+        Ending::Released(_) => false,
+        Ending::Marked(_) => true,
     }
 }
 
 // How long an arbitration takes.
-pub fn arbitration_time(channel: Channel) -> u32
-    ensures { λ r. ⌜ r ≡ arbitrationTime channel ⌝ }
+pub fn arbitration_time() -> u32
+    ensures { λ r. ⌜ r ≡ arbitrationTime ⌝ }
 {
     100
-}
-
-// The hold of a release: the clock less the asked time, or that there was none.
-pub fn hold_of(asked: Asked, clock: u32) -> Hold
-    ensures { λ r. ⌜ r ≡ holdOf asked clock ⌝ }
-{
-    match asked {
-        Asked::Never => Hold::Unasked,
-        Asked::At(t) => Hold::After(basics::less(clock, t)),
-    }
-}
-
-// The release of an owner without a request.
-pub fn turn_leave(channel: Channel, owner: u8) -> Turned
-    ensures { λ r. ⌜ r ≡ leaveTurn channel owner ⌝ }
-{
-    let inactive = channel.inactive;
-    let asked = channel.asked;
-    let clock = channel.clock;
-    let hold = hold_of(asked, clock);
-    let next = channel::line_rule(free(channel, inactive));
-    Turned {
-        channel: next,
-        entry: Entry::Release(clock, owner, hold),
-    }
 }

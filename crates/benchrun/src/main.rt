@@ -261,6 +261,19 @@ fn print_tally(tally: Tally) {
     print_number(tally.hold as u64);
 }
 
+// The stores at the start, and a run of no steps on a fresh channel. That run is there so that `run` is called at two
+// places: the compiler then keeps it a function of its own, as it is for whoever calls the library, and does not mix it
+// into this program.
+fn prepare(setup: Setup, slave: &mut [u8], master: &mut [u8]) {
+    fill_master(master);
+    fill_zero(slave);
+    let fresh = Session {
+        channel: channel::fresh_channel(),
+        tally: no_tally(),
+    };
+    whole_run(setup, fresh, slave, master, 0);
+}
+
 fn run_over(
     setup: Setup,
     list: &[u32],
@@ -269,8 +282,7 @@ fn run_over(
     times: u32,
     single: bool,
 ) {
-    fill_master(master);
-    fill_zero(slave);
+    prepare(setup, slave, master);
     let session = take_rounds(setup, list, slave, master, times, single);
     let channel = session.channel;
     let tally = session.tally;

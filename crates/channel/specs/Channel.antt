@@ -25,6 +25,11 @@ ownerOf (Granted owner) = owner
 abbrev pub hasRequest : List ℕ → ℕ → Bool
 hasRequest left l = not (eqb (getD left l 0) 0)
 
+-- where the owner stands in the arrays
+abbrev pub placeIn : Phase → ℕ
+placeIn Arbitrating = 0
+placeIn (Granted owner) = owner
+
 -- "A request is level, direction .., space, address, length .. and an offset in the master store.": what is left of a level's
 abbrev pub requestOf : Channel → ℕ → Request
 requestOf ch l =

@@ -4,7 +4,7 @@ use frame::Setup;
 use refusal::Refusal;
 use refusal::Verdict;
 ghost use mathlib.Core.Path.{_≡_};
-ghost use Rattle.channel.specs.Channel.{ownerOf, requestOf, withRequest, fresh, setUp};
+ghost use Rattle.channel.specs.Channel.{ownerOf, placeIn, requestOf, withRequest, fresh, setUp};
 ghost use Rattle.channel.specs.Line.{lineActive, winner, cleared, askedNow, timed, lineRule};
 
 // The channel is arbitrating, or granted to one level.
@@ -54,6 +54,16 @@ pub fn owner_of(phase: Phase) -> u8
     match phase {
         Phase::Arbitrating => 16,
         Phase::Granted(owner) => owner,
+    }
+}
+
+// Where the owner stands in the arrays; while arbitrating the first place, which nobody then looks at.
+pub fn place_of(phase: Phase) -> usize
+    ensures { λ r. ⌜ r ≡ placeIn phase ⌝ }
+{
+    match phase {
+        Phase::Arbitrating => 0,
+        Phase::Granted(owner) => owner as usize,
     }
 }
 

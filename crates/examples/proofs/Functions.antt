@@ -96,7 +96,7 @@ module _ {M : Type 1} (𝓤 : URA M) (H : Heap 𝓤) (A : Atoms 𝓤) (mem : Mem
       × One frame.level_row_fits.ended frame.level_row_fits.clauses
       × One frame.levels_fit.ended frame.levels_fit.clauses
       × One frame.slave_row_fits.ended frame.slave_row_fits.clauses
-      × One frame.slaves_fit.ended frame.slaves_fit.clauses
+      × One frame.framed_store.ended frame.framed_store.clauses
       × One frame.is_framed.ended frame.is_framed.clauses
       × One frame.level_row.ended frame.level_row.clauses
       × One frame.row_holds.ended frame.row_holds.clauses
@@ -119,6 +119,7 @@ module _ {M : Type 1} (𝓤 : URA M) (H : Heap 𝓤) (A : Atoms 𝓤) (mem : Mem
   )
 
   of-channel : One channel.owner_of.ended channel.owner_of.clauses
+      × One channel.place_of.ended channel.place_of.clauses
       × One channel.request_of.ended channel.request_of.clauses
       × One channel.put_request.ended channel.put_request.clauses
       × One channel.line_active.ended channel.line_active.clauses
@@ -135,12 +136,12 @@ module _ {M : Type 1} (𝓤 : URA M) (H : Heap 𝓤) (A : Atoms 𝓤) (mem : Mem
     λ κs a g. alone 𝓤 _ (λ v w. refl),
     λ κs a g. alone 𝓤 _ (λ v w. refl),
     λ κs a g. alone 𝓤 _ (λ v w. refl),
+    λ κs a g. alone 𝓤 _ (λ v w. refl),
   )
 
   of-sound : One sound.is_present.ended sound.is_present.clauses
       × One sound.level_of.ended sound.level_of.clauses
       × One sound.slave_of.ended sound.slave_of.clauses
-      × One sound.start_of.ended sound.start_of.clauses
       × One sound.has_burst.ended sound.has_burst.clauses
       × One sound.is_fair.ended sound.is_fair.clauses
       × One sound.has_linger.ended sound.has_linger.clauses
@@ -150,7 +151,6 @@ module _ {M : Type 1} (𝓤 : URA M) (H : Heap 𝓤) (A : Atoms 𝓤) (mem : Mem
       × One sound.is_within.ended sound.is_within.clauses
       × One sound.is_sound.ended sound.is_sound.clauses
   of-sound = (
-    λ κs a g. alone 𝓤 _ (λ v w. refl),
     λ κs a g. alone 𝓤 _ (λ v w. refl),
     λ κs a g. alone 𝓤 _ (λ v w. refl),
     λ κs a g. alone 𝓤 _ (λ v w. refl),
@@ -173,16 +173,10 @@ module _ {M : Type 1} (𝓤 : URA M) (H : Heap 𝓤) (A : Atoms 𝓤) (mem : Mem
       × One act.is_leaving.ended act.is_leaving.clauses
       × One act.released_by.ended act.released_by.clauses
       × One act.ending_of.ended act.ending_of.clauses
-      × One act.free.ended act.free.clauses
-      × One act.mark.ended act.mark.clauses
-      × One act.ended_by.ended act.ended_by.clauses
+      × One act.is_kept.ended act.is_kept.clauses
+      × One act.is_marked.ended act.is_marked.clauses
       × One act.arbitration_time.ended act.arbitration_time.clauses
-      × One act.hold_of.ended act.hold_of.clauses
-      × One act.turn_leave.ended act.turn_leave.clauses
   of-act = (
-    λ κs a g. alone 𝓤 _ (λ v w. refl),
-    λ κs a g. alone 𝓤 _ (λ v w. refl),
-    λ κs a g. alone 𝓤 _ (λ v w. refl),
     λ κs a g. alone 𝓤 _ (λ v w. refl),
     λ κs a g. alone 𝓤 _ (λ v w. refl),
     λ κs a g. alone 𝓤 _ (λ v w. refl),

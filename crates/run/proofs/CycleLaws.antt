@@ -30,7 +30,7 @@ use Rattle.act.specs.declared.Ending.{Ending}
 use Rattle.act.specs.declared.Ending.the-variants.{Kept, Released, Marked}
 use Rattle.act.specs.declared.Entry.{Entry}
 use Rattle.act.specs.declared.Entry.the-variants.{Cycle}
-use Rattle.act.specs.Cycle.{pathOf, cycleBytes, restAfter, slotAfter, releasedBy, endingOf, isLeaving, clocked, freed, endedBy, movedOn, cycleEntry, cycleTurn}
+use Rattle.act.specs.Cycle.{pathOf, cycleBytes, restAfter, slotAfter, releasedBy, endingOf, isKept, isLeaving, clocked, freed, endedBy, movedOn, cycleEntry, cycleTurn}
 use Rattle.act.proofs.EndingLaws.{ended-request}
 use Rattle.tally.specs.declared.Tally.{Tally}
 use Rattle.tally.specs.Tally.{addEntry}
@@ -49,7 +49,6 @@ use Rattle.run.specs.Turns.{
   toCome,
   cycled,
   filled,
-  isKept,
   Held,
   heldOf,
   held,

@@ -14,7 +14,7 @@ use Rattle.frame.specs.declared.Setup.{Setup}
 use Rattle.channel.specs.declared.Phase.{Phase}
 use Rattle.channel.specs.declared.Phase.the-variants.{Arbitrating, Granted}
 use Rattle.channel.specs.declared.Channel.{Channel}
-use Rattle.channel.specs.Channel.{hasRequest, requestOf, Shaped}
+use Rattle.channel.specs.Channel.{hasRequest, placeIn, requestOf, Shaped}
 use Rattle.sound.proofs.SoundFacts.{sound-is}
 use Rattle.sound.proofs.RequestFacts.{fits-is, level-facts-of, slave-facts-of}
 use Rattle.act.specs.declared.Path.{Path}
@@ -25,7 +25,7 @@ use Rattle.step.proofs.PlanLaws.{roomy}
 use Rattle.run.specs.declared.Route.{Route}
 use Rattle.run.specs.Run.{ended, runFrom}
 use Rattle.run.specs.Turns.{worldOf, verdictIf, AreRoutes}
-use Rattle.run.specs.Turns.{Running, toCome, routeOf, noRoute, Routed, Owned, Turnable, placeIn, rested, turnBy, turnOf}
+use Rattle.run.specs.Turns.{Running, toCome, routeOf, noRoute, Routed, Owned, Turnable, rested, turnBy, turnOf}
 use Rattle.run.proofs.TurnLaws.{Turned, grant-turn, rest-turn}
 use Rattle.run.proofs.CycleLaws.{cycles-turn}
 
@@ -140,7 +140,7 @@ pub start-going : (setup : Setup) (budget : ℕ) (routes : List Route) (ch : Cha
     → Going setup budget routes (record { channel = ch; tally = t; done = 0; full = false; slave = slave; master = master })
     (record { channel = ch; tally = t; done = 0; full = false; slave = slave; master = master })
 start-going setup budget routes ch t slave master r k a =
-    record { same = refl; ready = r; shaped = k; least = omega arith; routed = λ l n b. a l n }
+    record { same = refl; ready = r; shaped = k; least = omega arith; routed = a }
 
 -- where it ends: the budget is used up, or the clock is full
 pub finished : (setup : Setup) (budget : ℕ) (w : Running) → (ltb (w .done) budget && not (w .full)) ≡ false → w .done ≤ budget

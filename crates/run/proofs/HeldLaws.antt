@@ -10,11 +10,11 @@ use Rattle.channel.specs.declared.Asked.{Asked}
 use Rattle.channel.specs.declared.Request.{Request}
 use Rattle.sound.specs.Sound.{clockLimit}
 use Rattle.act.specs.declared.Path.{Path}
-use Rattle.act.specs.Cycle.{cycleBytes, restAfter}
+use Rattle.act.specs.Cycle.{cycleBytes, restAfter, isKept}
 use Rattle.step.specs.Step.{Roomy, movedSlave, movedMaster}
 use Rattle.run.specs.declared.Tenure.{Tenure}
 use Rattle.run.specs.declared.Route.{Route}
-use Rattle.run.specs.Turns.{Held, heldOf, held, cycled, filled, isKept, Routed}
+use Rattle.run.specs.Turns.{Held, heldOf, held, cycled, filled, Routed}
 
 module _ (path : Path) (asked : Asked) (budget : ℕ) (t : Tenure) (slave master : List ℕ) (h : t .done < budget) where
   left-one : budget - t .done ≡ suc (budget - (t .done + 1))

@@ -15,11 +15,11 @@ use Rattle.channel.specs.Line.{isInactive}
 use Rattle.act.specs.declared.Path.{Path}
 use Rattle.act.specs.declared.Ending.{Ending}
 use Rattle.act.specs.declared.Ending.the-variants.{Kept, Released, Marked}
-use Rattle.act.specs.Cycle.{slotAfter, clocked, freed, endedBy}
+use Rattle.act.specs.Cycle.{slotAfter, isKept, isMarked, clocked, freed, endedBy}
 use Rattle.run.specs.declared.State.{State}
 use Rattle.run.specs.declared.Tenure.{Tenure}
 use Rattle.run.specs.Turns.{arbitrated, arbitratedMarks, rested, cyclesRun, turnBy, turnOf}
-use Rattle.run.specs.Turns.{Running, runningOf, Held, heldOf, afterHeld, isKept, isMarked, stateAfter}
+use Rattle.run.specs.Turns.{Running, runningOf, Held, heldOf, afterHeld, stateAfter}
 
 module _ (s : State) (inactive : List Bool) (direction space address left offset : List ℕ) (o : ℕ) (slave master : List ℕ) where
   abbrev was : Running

@@ -104,18 +104,21 @@ pub from-miss : (f : ℕ → Bool) (i n : ℕ) → i < n → f i ≡ false → a
 unfolding anyFrom
 from-miss f i n h e = let k : n - i ≡ suc (n - (i + 1)) = omega arith in rw (k, e, add-one i)
 
--- the routes of the levels below one more
-pub first-route : (setup : Setup) (ch : Channel) (first : Route) → first ≡ routeOf (pathOf setup 0 (requestOf ch 0)) → AreRoutes setup ch
-    (replicate 16 first) 1
-first-route setup ch first e l h = let z : l ≡ 0 = omega (arith, h) in rw z e
-
+-- the routes of the levels below one more: of one with an open request, and of one without
 pub route-more : (setup : Setup) (ch : Channel) (routes : List Route) (i : ℕ) (route : Route) → i < length routes → AreRoutes setup ch routes i
     → route ≡ routeOf (pathOf setup i (requestOf ch i)) → AreRoutes setup ch (set routes i route) (i + 1)
-route-more setup ch routes i route k h e l n =
+route-more setup ch routes i route k h e l n a =
     by-test (eqb l i)
     (λ t.
     let same : l ≡ i = eqb-true l i t in
     rw same (getD-set-same routes i route noRoute k ∙ e))
     (λ f.
     let other = eqb-false l i f in
-    getD-set-other routes i l route noRoute other ∙ h l (omega (arith, n, other)))
+    getD-set-other routes i l route noRoute other ∙ h l (omega (arith, n, other)) a)
+
+pub route-none : (setup : Setup) (ch : Channel) (routes : List Route) (i : ℕ) → AreRoutes setup ch routes i → getD (ch .left) i 0 ≡ 0
+    → AreRoutes setup ch routes (i + 1)
+route-none setup ch routes i h e l n a =
+    by-test (eqb l i)
+    (λ t. let same : l ≡ i = eqb-true l i t in absurd (false≢true (rw (same, e) at a)))
+    (λ f. let other = eqb-false l i f in h l (omega (arith, n, other)) a)

@@ -152,13 +152,13 @@ module _ (setup : Setup) (budget : ℕ) (w : Running) (f : w .full ≡ false) (h
   pub grant-turn : ch .phase ≡ Arbitrating
       → Turned setup budget w (withState w (arbitrated (stateOf w) (ch .left) (ch .inactive)) (arbitratedMarks (stateOf w) (ch .left)
       (ch .inactive)))
-  unfolding arbitrated arbitratedMarks marksAfter actPlan grantTurn granted arbitrationTime cleared timed
+  unfolding arbitrated arbitratedMarks marksAfter actPlan grantTurn granted cleared timed
   grant-turn a =
-      by-test (ltb clockLimit (ch .clock + 100))
+      by-test (ltb clockLimit (ch .clock + arbitrationTime))
       (λ t. rw t (full-turn (plan.Refused ClockFull) (rw (a, t)) refl))
       (λ n.
       rw n
-      (one-turn (plan.Grant (winner (ch .left) (ch .inactive))) (Grant (ch .clock + 100) (winner (ch .left) (ch .inactive))) _ _ (rw
+      (one-turn (plan.Grant (winner (ch .left) (ch .inactive))) (Grant (ch .clock + arbitrationTime) (winner (ch .left) (ch .inactive))) _ _ (rw
       (a, n)) refl refl refl refl refl
       (λ l. refl)))
 

@@ -17,15 +17,15 @@ use Rattle.channel.specs.declared.Asked.{Asked}
 use Rattle.channel.specs.declared.Asked.the-variants.{Never, At}
 use Rattle.channel.specs.declared.Channel.{Channel}
 use Rattle.channel.specs.declared.Request.{Request}
-use Rattle.channel.specs.Channel.{requestOf, withRequest}
+use Rattle.channel.specs.Channel.{hasRequest, requestOf, withRequest}
 use Rattle.channel.specs.Line.{isInactive, waits, lineActive, askedNow, lineRule, winner}
 use Rattle.sound.specs.Sound.{clockLimit}
 use Rattle.act.specs.declared.Path.{Path}
 use Rattle.act.specs.declared.Hold.the-variants.{After}
 use Rattle.act.specs.declared.Ending.{Ending}
 use Rattle.act.specs.declared.Ending.the-variants.{Kept, Released, Marked}
-use Rattle.act.specs.Cycle.{pathOf, cycleBytes, restAfter, slotAfter, endingOf, clocked, freed, endedBy}
-use Rattle.act.specs.Turn.{arbitrationTime, granted}
+use Rattle.act.specs.Cycle.{pathOf, cycleBytes, restAfter, slotAfter, endingOf, isKept, clocked, endedBy}
+use Rattle.act.specs.Turn.{arbitrationTime}
 use Rattle.tally.specs.declared.Tally.{Tally}
 use Rattle.tally.specs.Tally.{addGrant, addCycle, addRelease}
 use Rattle.step.specs.Step.{Roomy, movedSlave, movedMaster}
@@ -88,8 +88,8 @@ abbrev pub grantState : State → List ℕ → List Bool → ℕ → State
 grantState s left inactive w =
     record {
       phase = Granted w;
-      asked = askedNow (Granted w) Never (lineActive left (marksAfter left inactive w) (Granted w)) (s .clock + 100);
-      clock = s .clock + 100;
+      asked = askedNow (Granted w) Never (lineActive left (marksAfter left inactive w) (Granted w)) (s .clock + arbitrationTime);
+      clock = s .clock + arbitrationTime;
       tally = addGrant (s .tally);
       done = s .done + 1;
       full = false;
@@ -97,11 +97,11 @@ grantState s left inactive w =
 
 unfoldable pub arbitrated : State → List ℕ → List Bool → State
 arbitrated s left inactive =
-    cond (ltb clockLimit (s .clock + 100)) (filledState s) (grantState s left inactive (winner left inactive))
+    cond (ltb clockLimit (s .clock + arbitrationTime)) (filledState s) (grantState s left inactive (winner left inactive))
 
 unfoldable pub arbitratedMarks : State → List ℕ → List Bool → List Bool
 arbitratedMarks s left inactive =
-    cond (ltb clockLimit (s .clock + 100)) inactive (marksAfter left inactive (winner left inactive))
+    cond (ltb clockLimit (s .clock + arbitrationTime)) inactive (marksAfter left inactive (winner left inactive))
 
 -- an owner without a request leaves where it is asked, and idles otherwise
 abbrev pub restBy : Asked → State → State
@@ -134,16 +134,6 @@ cycled path asked t =
 
 unfoldable pub filled : Tenure → Tenure
 filled t = record { clock = t .clock; request = t .request; tally = t .tally; done = t .done; ending = Kept; full = true }
-
-abbrev pub isKept : Ending → Bool
-isKept Kept = true
-isKept (Released hold) = false
-isKept (Marked hold) = false
-
-abbrev pub isMarked : Ending → Bool
-isMarked Kept = false
-isMarked (Released hold) = false
-isMarked (Marked hold) = true
 
 -- an owner's cycles, and the stores after them
 pub record Held : Type 0 where
@@ -224,7 +214,7 @@ turnBy path budget w (Granted o) =
 unfoldable pub turnOf : Path → ℕ → Running → Running
 turnOf path budget w = turnBy path budget w (w .channel .phase)
 
--- the state after an owner's cycles, and where the owner's route stands
+-- the state after an owner's cycles
 unfoldable pub stateAfter : State → Tenure → State
 stateAfter s t =
     record {
@@ -235,10 +225,6 @@ stateAfter s t =
       done = t .done;
       full = t .full;
     }
-
-abbrev pub placeIn : Phase → ℕ
-placeIn Arbitrating = 0
-placeIn (Granted o) = o
 
 abbrev pub verdictIf : Bool → Verdict
 verdictIf full = cond full (Refused ClockFull) Accepted
@@ -268,9 +254,9 @@ noRoute =
       whole = 0;
     }
 
--- the routes of the requests of the levels below n
+-- the routes of the open requests of the levels below n
 abbrev pub AreRoutes : Setup → Channel → List Route → ℕ → Type 0
-AreRoutes setup ch routes n = (l : ℕ) → l < n → getD routes l noRoute ≡ routeOf (pathOf setup l (requestOf ch l))
+AreRoutes setup ch routes n = (l : ℕ) → l < n → hasRequest (ch .left) l ≡ true → getD routes l noRoute ≡ routeOf (pathOf setup l (requestOf ch l))
 
 -- what a route relies on
 pub record Routed (route : Route) : Type 0 where

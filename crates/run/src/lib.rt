@@ -26,8 +26,8 @@ ghost use Rattle.act.specs.Cycle.{pathOf, cycleBytes, isLate, isLeaving, ending
 ghost use Rattle.step.specs.Step.{Ready, Roomy, movedSlave, movedMaster};
 ghost use Rattle.run.specs.Run.{world, runFrom, runBy, runOf};
 ghost use Rattle.run.specs.Turns.{waitsFrom, marksAfter, filledState, arbitrated, arbitratedMarks, rested};
-ghost use Rattle.run.specs.Turns.{routeOf, AreRoutes, Routed, Turnable, cycled, filled, isKept, isMarked, held};
-ghost use Rattle.run.specs.Turns.{stateAfter, runningOf, cyclesRun, turnOf, placeIn, verdictIf};
+ghost use Rattle.run.specs.Turns.{routeOf, AreRoutes, Routed, Turnable, cycled, filled, held};
+ghost use Rattle.run.specs.Turns.{stateAfter, runningOf, cyclesRun, turnOf, verdictIf};
 
 // The channel and the tally after a run, the steps done, and why it was refused or stopped, if it was.
 pub struct Ran {
@@ -119,17 +119,17 @@ fn filled_state(state: State) -> State
 
 // Arbitration: the winner is the owner, and the line rule.
 fn arbitrate(state: State, left: &[u32; 16], inactive: &mut [bool; 16]) -> State
-    requires { ⌜ state .clock ≤ 4000000000 ⌝ }
     requires { ⌜ state .done < 65535 ⌝ }
     ensures { λ r. ⌜ r ≡ arbitrated state (now (left .entry)) (now (inactive .entry)) ⌝ }
     ensures { λ r. ⌜ now (inactive .exit) ≡ arbitratedMarks state (now (left .entry)) (now (inactive .entry)) ⌝ }
 {
-    if 3999999900 < state.clock {
+    let time = act::arbitration_time();
+    if 4000000000 < state.clock as u64 + time as u64 {
         return filled_state(state);
     }
     let owner = channel::winner_of(left, inactive);
     let active = settle(left, inactive, owner);
-    let clock = state.clock + 100;
+    let clock = state.clock + time;
     let asked = asked_if(active, clock);
     let tally = tally::add_grant(state.tally);
     State {
@@ -381,26 +381,6 @@ fn fill(now: Tenure) -> Tenure
     }
 }
 
-fn is_kept(ending: Ending) -> bool
-    ensures { λ r. ⌜ r ≡ isKept ending ⌝ }
-{
-    match ending {
-        Ending::Kept => true,
-        Ending::Released(_) => false,
-        Ending::Marked(_) => false,
-    }
-}
-
-fn is_marked(ending: Ending) -> bool
-    ensures { λ r. ⌜ r ≡ isMarked ending ⌝ }
-{
-    match ending {
-        Ending::Kept => false,
-        Ending::Released(_) => false,
-        Ending::Marked(_) => true,
-    }
-}
-
 // Cycles of one owner, until it releases the channel, the clock is full or the budget is used up.
 fn hold_channel(
     route: Route,
@@ -429,7 +409,7 @@ fn hold_channel(
         carry(path, request, bytes, slave, master);
         now = cycle_on(route, asked, now, bytes);
         let ending = now.ending;
-        if !is_kept(ending) {
+        if !act::is_kept(ending) {
             return now;
         }
     }
@@ -444,7 +424,7 @@ fn state_after(state: State, tenure: Tenure) -> State
     let phase = state.phase;
     let asked = state.asked;
     let tally = tenure.tally;
-    if is_kept(ending) {
+    if act::is_kept(ending) {
         return State {
             phase: phase,
             asked: asked,
@@ -514,7 +494,7 @@ fn run_cycles(
     left[at] = slot.left;
     offset[at] = slot.offset;
     let ending = tenure.ending;
-    inactive[at] = is_marked(ending);
+    inactive[at] = act::is_marked(ending);
     state_after(state, tenure)
 }
 
@@ -576,28 +556,36 @@ fn route_of(setup: Setup, level: u32, request: Request) -> Route
     }
 }
 
-// The routes of all levels' requests: no request is posted during a run, and what is left of one goes the way of the whole.
+// The routes of the open requests: none is posted during a run, and what is left of one goes the way of the whole.
 fn routes_of(setup: Setup, channel: Channel) -> [Route; 16]
     ensures { λ r. ⌜ AreRoutes setup channel r 16 ⌝ }
 {
-    let first = route_of(setup, 0, channel::request_of(channel, 0));
-    let mut routes = [first; 16];
-    let mut level: usize = 1;
+    let none = Path {
+        width: 0,
+        options: 0,
+        port: 0,
+        time: 0,
+        base: 0,
+        start: 0,
+        allowed: 0,
+    };
+    let nowhere = Route {
+        path: none,
+        narrow: 0,
+        whole: 0,
+    };
+    let mut routes = [nowhere; 16];
+    let mut level: usize = 0;
     while level < 16 {
-        routes[level] = route_of(setup, level as u32, channel::request_of(channel, level));
-        level += 1;
+        let request = channel::request_of(channel, level);
+        if request.left == 0 {
+            level += 1;
+        } else {
+            routes[level] = route_of(setup, level as u32, request);
+            level += 1;
+        }
     }
     routes
-}
-
-// Where the owner's route stands; while arbitrating none is wanted.
-fn place_of(phase: Phase) -> usize
-    ensures { λ r. ⌜ r ≡ placeIn phase ⌝ }
-{
-    match phase {
-        Phase::Arbitrating => 0,
-        Phase::Granted(owner) => owner as usize,
-    }
 }
 
 fn verdict_of(full: bool) -> Verdict
@@ -644,7 +632,7 @@ fn run_steps(
     };
     while (state.done < budget) & !state.full {
         let owner = state.phase;
-        let at = place_of(owner);
+        let at = channel::place_of(owner);
         let route = routes[at];
         state = turn(
             route,

@@ -11,7 +11,7 @@ use lib.ListN.{length, getD, set}
 use lib.Seq.{getD-set-same, getD-set-other}
 use Rattle.basics.specs.Scan.{firstFrom}
 use Rattle.basics.proofs.ScanLaws.{all-ext, all-both, first-hit, first-miss, first-none}
-use Rattle.basics.proofs.Tests.{by-test}
+use Rattle.basics.proofs.Tests.{by-test, and-left}
 use Rattle.refusal.specs.Refusal.{isAccepted}
 use Rattle.frame.specs.declared.LevelRows.{LevelRows}
 use Rattle.frame.specs.declared.Setup.{Setup}
@@ -25,8 +25,11 @@ use Rattle.frame.specs.Find.{levelFound, levelRow, levelIndex, holds, slaveInde
 use Rattle.frame.proofs.RowLaws.{slave-hit, slave-none}
 use Rattle.channel.specs.declared.Phase.{Phase}
 use Rattle.channel.specs.declared.Phase.the-variants.{Arbitrating, Granted}
+use Rattle.channel.specs.declared.Asked.{Asked}
+use Rattle.channel.specs.declared.Asked.the-variants.{Never, At}
 use Rattle.channel.specs.declared.Channel.{Channel}
 use Rattle.channel.specs.declared.Request.{Request}
+use Rattle.channel.specs.Channel.{placeIn, requestOf}
 use Rattle.channel.specs.Line.{line}
 use Rattle.sound.specs.declared.Members.{Members}
 use Rattle.sound.specs.Rows.{isLevel, levelOr, isFair, isPresent, levelOf, isSlave, slaveFor}
@@ -40,6 +43,8 @@ use Rattle.sound.specs.Sound.{
   isMarkSound,
   areMarksSound,
   isClockSound,
+  isAskedAt,
+  askedSound,
   isAskedSound,
   isSound,
 }
@@ -56,6 +61,7 @@ use Rattle.sound.specs.Tables.{
   restFits,
   areOpenSound,
   areMarked,
+  askedFits,
 }
 
 -- the row of a level among those from row i on
@@ -200,6 +206,26 @@ module _ (setup : Setup) (ch : Channel) (members : Members) (tells : AreMembers 
   unfolding areMarked areMarksSound isMarkSound isPresent levelOf
   marks-fit active =
       all-ext _ _ 16 (λ l k. rw (tells .fair l k, fair-row active (levelRow (setup .levels) l)))
+
+  pub place-small : ownerFits (members .present) (ch .left) (ch .inactive) (ch .phase) ≡ true → placeIn (ch .phase) < 16
+  place-small = place-by (ch .phase)
+    where
+      place-by : (p : Phase) → ownerFits (members .present) (ch .left) (ch .inactive) p ≡ true → placeIn p < 16
+      place-by Arbitrating e = omega arith
+      place-by (Granted o) e = let h = leb-true o 15 (and-left _ _ e) in omega arith
+
+  -- the asked time
+  asked-by : (active : Bool) (p : Phase) (a : Asked) → askedFits setup (requestOf ch (placeIn p)) (ch .clock) active p a ≡ askedSound setup ch active p a
+  unfolding isAskedAt
+  asked-by active Arbitrating Never = refl
+  asked-by active Arbitrating (At t) = refl
+  asked-by active (Granted o) Never = refl
+  asked-by active (Granted o) (At t) = refl
+
+  pub asked-fits : (active : Bool)
+      → askedFits setup (requestOf ch (placeIn (ch .phase))) (ch .clock) active (ch .phase) (ch .asked) ≡ isAskedSound setup ch active
+  unfolding isAskedSound
+  asked-fits active = asked-by active (ch .phase) (ch .asked)
 
   -- owner, blank places, marks and times, open requests, as they are tested one after the other
   tested-sound : ((ownerFits (members .present) (ch .left) (ch .inactive) (ch .phase)

@@ -15,13 +15,15 @@ use Rattle.frame.specs.declared.FoundLevel.the-variants.{Missing, Row}
 use Rattle.frame.specs.Find.{levelRow}
 use Rattle.channel.specs.declared.Phase.{Phase}
 use Rattle.channel.specs.declared.Phase.the-variants.{Arbitrating, Granted}
+use Rattle.channel.specs.declared.Asked.{Asked}
+use Rattle.channel.specs.declared.Asked.the-variants.{Never, At}
 use Rattle.channel.specs.declared.Request.{Request}
 use Rattle.channel.specs.Channel.{hasRequest}
 use Rattle.channel.specs.Line.{isInactive}
 use Rattle.sound.specs.declared.Members.{Members}
 use Rattle.sound.specs.Rows.{isLevel, isFair}
 use Rattle.sound.specs.Request.{isInRange, requestVerdict}
-use Rattle.sound.specs.Sound.{isBlank}
+use Rattle.sound.specs.Sound.{isBlank, isInTime}
 
 -- a present level is fair
 abbrev pub isFairRow : FoundLevel → Bool
@@ -84,3 +86,10 @@ restFits present master q = present && (isInRange q && not (ltb master (q .offse
 -- the marks
 unfoldable pub areMarked : List Bool → List Bool → Bool → Bool
 areMarked fair inactive active = allBelow (λ (l : ℕ). not (isInactive inactive l) || (getD fair l false && active)) 16
+
+-- the asked time, by what is left of the owner's request
+abbrev pub askedFits : Setup → Request → ℕ → Bool → Phase → Asked → Bool
+askedFits setup q clock active Arbitrating Never = true
+askedFits setup q clock active Arbitrating (At t) = false
+askedFits setup q clock active (Granted owner) Never = not active
+askedFits setup q clock active (Granted owner) (At t) = active && (leb t clock && isInTime setup owner q clock t)

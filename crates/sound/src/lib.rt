@@ -16,10 +16,10 @@ use refusal::Verdict;
 ghost use mathlib.Core.Path.{_≡_};
 ghost use Prim.Native.Nat.{_<_, _+_};
 ghost use lib.Dec.{ltb};
-ghost use Rattle.sound.specs.Rows.{isPresent, levelOf, slaveOf, startOf, hasBurst, isFair, hasLinger};
+ghost use Rattle.sound.specs.Rows.{isPresent, levelOf, slaveOf, hasBurst, isFair, hasLinger};
 ghost use Rattle.sound.specs.Request.{isInRange, requestVerdict, transferOf};
-ghost use Rattle.sound.specs.Sound.{allowance, isWithin, isBlank, isInTime, isAskedAt, isAskedSound, isSound};
-ghost use Rattle.sound.specs.Tables.{AreMembers, grantFits, ownerFits, requestAt, areBlank, restFits, areOpenSound, areMarked};
+ghost use Rattle.sound.specs.Sound.{allowance, isWithin, isBlank, isInTime, isSound};
+ghost use Rattle.sound.specs.Tables.{AreMembers, grantFits, ownerFits, requestAt, areBlank, restFits, areOpenSound, areMarked, askedFits};
 
 // The level is in the set-up.
 pub fn is_present(levels: LevelRows, level: u32) -> bool
@@ -61,17 +61,6 @@ pub fn slave_of(slaves: SlaveRows, request: Request) -> SlaveRow
             time: 0,
         },
         FoundSlave::Row(row, _) => row,
-    }
-}
-
-// Where the bytes of a request's slave row start in the slave store, or 0.
-pub fn start_of(slaves: SlaveRows, request: Request) -> usize
-    ensures { λ r. ⌜ r ≡ startOf slaves request ⌝ }
-{
-    let found = frame::slave_row(slaves, request.space, request.address, request.left);
-    match found {
-        FoundSlave::Missing => 0,
-        FoundSlave::Row(_, start) => start,
     }
 }
 
@@ -350,20 +339,23 @@ fn is_in_time(setup: Setup, owner: u32, request: Request, clock: u32, t: u32) ->
 }
 
 // An asked time of an owner: the line is active, it is not later than the clock, and the owner is in time.
-fn is_asked_at(setup: Setup, channel: Channel, active: bool, owner: u8, t: u32) -> bool
-    ensures { λ r. ⌜ r ≡ isAskedAt setup channel active owner t ⌝ }
+fn is_asked_at(setup: Setup, request: Request, clock: u32, active: bool, owner: u8, t: u32) -> bool
+    ensures { λ r. ⌜ r ≡ askedFits setup request clock active (Phase.Granted owner) (Asked.At t) ⌝ }
 {
-    let request = channel::request_of(channel, owner as usize);
-    let clock = channel.clock;
     active & ((t <= clock) & is_in_time(setup, owner as u32, request, clock, t))
 }
 
-// The asked time.
-fn is_asked_sound(setup: Setup, channel: Channel, active: bool) -> bool
-    ensures { λ r. ⌜ r ≡ isAskedSound setup channel active ⌝ }
+// The asked time, by what is left of the owner's request.
+fn is_asked_sound(
+    setup: Setup,
+    request: Request,
+    clock: u32,
+    active: bool,
+    phase: Phase,
+    asked: Asked,
+) -> bool
+    ensures { λ r. ⌜ r ≡ askedFits setup request clock active phase asked ⌝ }
 {
-    let phase = channel.phase;
-    let asked = channel.asked;
     match asked {
         Asked::Never => match phase {
             Phase::Arbitrating => true,
@@ -371,7 +363,7 @@ fn is_asked_sound(setup: Setup, channel: Channel, active: bool) -> bool
         },
         Asked::At(t) => match phase {
             Phase::Arbitrating => false,
-            Phase::Granted(owner) => is_asked_at(setup, channel, active, owner, t),
+            Phase::Granted(owner) => is_asked_at(setup, request, clock, active, owner, t),
         },
     }
 }
@@ -398,7 +390,17 @@ pub fn is_sound(setup: Setup, channel: Channel) -> bool
     }
     let active = channel::line_active(&channel.left, &channel.inactive, phase);
     let marked = are_marks_sound(&members.fair, &channel.inactive, active);
-    let timed = (channel.clock <= 4000000000) & is_asked_sound(setup, channel, active);
+    let request = request_at(
+        &channel.direction,
+        &channel.space,
+        &channel.address,
+        &channel.left,
+        &channel.offset,
+        channel::place_of(phase),
+    );
+    let asked = channel.asked;
+    let clock = channel.clock;
+    let timed = (clock <= 4000000000) & is_asked_sound(setup, request, clock, active, phase, asked);
     if !(marked & timed) {
         return false;
     }

@@ -96,7 +96,7 @@ module _ (setup : Setup) (framed : isFramed setup ≡ true) (ch : Channel) (s : 
       })
       (winner-is (ch .left) (ch .inactive))
 
-  grant-settled : ch .phase ≡ Arbitrating → ch .clock + arbitrationTime ch ≤ clockLimit
+  grant-settled : ch .phase ≡ Arbitrating → ch .clock + arbitrationTime ≤ clockLimit
       → Settled setup (granted ch (winner (ch .left) (ch .inactive)))
   unfolding granted
   grant-settled e k =

@@ -1,3 +1,4 @@
 pub mod PlanLaws
+pub mod ActLaws
 pub mod KeepLaws
 pub mod QuietLaws

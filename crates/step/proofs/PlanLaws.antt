@@ -41,7 +41,7 @@ use Rattle.step.specs.Step.{Ready, Able, Roomy, advancedBy, placeFor, mo
 abbrev Says : Setup → Channel → Phase → Plan → Type 0
 Says setup ch p Idle = (o : ℕ) × (p ≡ Granted o) × (eqb (getD (ch .left) o 0) 0 ≡ true) × (line ch ≡ false)
 Says setup ch p (Refused why) = why ≡ ClockFull
-Says setup ch p (Grant w) = (p ≡ Arbitrating) × (w ≡ winner (ch .left) (ch .inactive)) × (ch .clock + arbitrationTime ch ≤ clockLimit)
+Says setup ch p (Grant w) = (p ≡ Arbitrating) × (w ≡ winner (ch .left) (ch .inactive)) × (ch .clock + arbitrationTime ≤ clockLimit)
 Says setup ch p (Leave o) = (p ≡ Granted o) × (eqb (getD (ch .left) o 0) 0 ≡ true) × (line ch ≡ true)
 Says setup ch p (Cycle o) =
     (p ≡ Granted o)
@@ -65,7 +65,7 @@ owner-says setup ch o =
 
 phase-says : (setup : Setup) (ch : Channel) (p : Phase) → Says setup ch p (phasePlan setup ch p)
 phase-says setup ch Arbitrating =
-    timed-says setup ch Arbitrating (arbitrationTime ch) (Grant (winner (ch .left) (ch .inactive))) (λ h. (refl, refl, h))
+    timed-says setup ch Arbitrating arbitrationTime (Grant (winner (ch .left) (ch .inactive))) (λ h. (refl, refl, h))
 phase-says setup ch (Granted o) = owner-says setup ch o
 
 pub says : (setup : Setup) (ch : Channel) (plan : Plan) → actPlan setup ch ≡ plan → Says setup ch (ch .phase) plan

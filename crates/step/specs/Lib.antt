@@ -1,2 +1,3 @@
+pub mod Acts
 pub mod Plan
 pub mod Step

@@ -1,25 +1,32 @@
 // One step of the channel (document 01, "One step"): the plan, which decides without a look at the bytes, and the step,
-// which carries it out on the channel and on both stores and gives the log entry.
+// which carries it out on the channel and on both stores and gives the log entry. The step works in place, on the channel's
+// arrays as locals: a channel passed on by value is copied each time.
 use act::CycleEntry;
+use act::Ending;
 use act::Entry;
+use act::Hold;
 use act::Path;
-use act::Turned;
 use channel::Asked;
 use channel::Channel;
 use channel::Phase;
 use channel::Request;
 use frame::Setup;
+use frame::Store;
 use refusal::Refusal;
 use refusal::Verdict;
 use tally::Tally;
 ghost use mathlib.Core.Path.{_≡_};
-ghost use Prim.Native.Nat.{_+_, _-_, _≤_};
+ghost use mathlib.Core.Bool.{false, cond};
+ghost use Prim.Native.Nat.{_+_, _≤_, _<_};
 ghost use lib.ListN.{length};
-ghost use Rattle.channel.specs.Channel.{requestOf, withRequest};
-ghost use Rattle.act.specs.Cycle.{pathOf, restAfter, clocked, cycleTurn};
-ghost use Rattle.act.specs.Turn.{arbitrationTime, granted, grantTurn};
+ghost use Rattle.channel.specs.Channel.{Shaped};
+ghost use Rattle.channel.specs.Line.{isInactive, lineActive};
+ghost use Rattle.sound.specs.Tables.{requestAt};
+ghost use Rattle.act.specs.Cycle.{cycleBytes, restAfter};
 ghost use Rattle.step.specs.Plan.{ownerPlan, actPlan, readyVerdict, planOf};
-ghost use Rattle.step.specs.Step.{Ready, Able, doneBy, advancedBy, tallyBy, stepOf, movedSlave, movedMaster, slaveBy, masterBy, slaveAfter, masterAfter};
+ghost use Rattle.step.specs.Step.{Ready, Roomy, stepOf, movedSlave, movedMaster, slaveAfter, masterAfter};
+ghost use Rattle.step.specs.Acts.{marksLeft, fullActed, grantActed, grantMarks, restActed, cycleActed};
+ghost use Rattle.step.specs.Acts.{channelOf, steppedOf, madeOf, cycleMade, stepMade};
 
 // What a step is going to do.
 pub enum Plan {
@@ -35,10 +42,27 @@ pub enum StepAnswer {
     Refused(Refusal),
 }
 
-// The channel after a step of a sound channel, and its entry or why it was refused.
+// The channel after a step of a sound channel, and its entry or why it was refused. The definitions speak of it.
 pub struct Advanced {
     pub channel: Channel,
     pub answer: StepAnswer,
+}
+
+// What a step changes beside the channel's arrays and the stores.
+struct Standing {
+    phase: Phase,
+    asked: Asked,
+    clock: u32,
+    tally: Tally,
+}
+
+// The same after a step, and its answer.
+struct Acted {
+    phase: Phase,
+    asked: Asked,
+    clock: u32,
+    tally: Tally,
+    answer: StepAnswer,
 }
 
 // The channel and the tally after a step, and its entry or why it was refused.
@@ -75,7 +99,7 @@ fn act_plan(setup: Setup, channel: Channel) -> Plan
     let phase = channel.phase;
     match phase {
         Phase::Arbitrating => {
-            if 4000000000 < channel.clock as u64 + act::arbitration_time(channel) as u64 {
+            if 4000000000 < channel.clock as u64 + act::arbitration_time() as u64 {
                 return Plan::Refused(Refusal::ClockFull);
             }
             Plan::Grant(channel::winner_of(&channel.left, &channel.inactive))
@@ -88,14 +112,19 @@ fn act_plan(setup: Setup, channel: Channel) -> Plan
 pub fn ready_verdict(setup: Setup, channel: Channel, slave: usize, master: usize) -> Verdict
     ensures { λ r. ⌜ r ≡ readyVerdict setup channel slave master ⌝ }
 {
-    if !(frame::is_framed(setup) & sound::is_sound(setup, channel)) {
-        return Verdict::Refused(Refusal::Unsound);
+    let store = frame::framed_store(setup);
+    match store {
+        Store::Broken => Verdict::Refused(Refusal::Unsound),
+        Store::Length(length) => {
+            if !sound::is_sound(setup, channel) {
+                return Verdict::Refused(Refusal::Unsound);
+            }
+            if !((slave == length) & (master == setup.master as usize)) {
+                return Verdict::Refused(Refusal::StoreLength);
+            }
+            Verdict::Accepted
+        }
     }
-    let slaves = setup.slaves;
-    if !((slave == frame::slave_store_length(slaves)) & (master == setup.master as usize)) {
-        return Verdict::Refused(Refusal::StoreLength);
-    }
-    Verdict::Accepted
 }
 
 // The plan of a step over stores of these lengths: refusals 9, 8 and 6, in that order, or what the step does.
@@ -109,17 +138,111 @@ pub fn plan_of(setup: Setup, channel: Channel, slave: usize, master: usize) -> P
     }
 }
 
-// What is left of a request after one cycle.
-fn rest_after(path: Path, request: Request) -> Request
+// A step that the clock has no room for.
+fn full(standing: Standing) -> Acted
+    ensures { λ r. ⌜ r ≡ fullActed standing ⌝ }
+{
+    let phase = standing.phase;
+    let asked = standing.asked;
+    let tally = standing.tally;
+    Acted {
+        phase: phase,
+        asked: asked,
+        clock: standing.clock,
+        tally: tally,
+        answer: StepAnswer::Refused(Refusal::ClockFull),
+    }
+}
+
+// The line rule after a grant, in place: whether the line is then active.
+fn settle(left: &[u32; 16], inactive: &mut [bool; 16], phase: Phase) -> bool
+    ensures { λ r. ⌜ r ≡ lineActive (now (left .entry)) (now (inactive .exit)) phase ⌝ }
+    ensures { λ r. ⌜ now (inactive .exit) ≡ marksLeft (now (left .entry)) (now (inactive .entry)) phase ⌝ }
+{
+    if channel::line_active(left, inactive, phase) {
+        return true;
+    }
+    *inactive = [false; 16];
+    channel::line_active(left, inactive, phase)
+}
+
+fn asked_if(active: bool, clock: u32) -> Asked
+    ensures { λ r. ⌜ r ≡ cond active (Asked.At clock) Asked.Never ⌝ }
+{
+    if active {
+        return Asked::At(clock);
+    }
+    Asked::Never
+}
+
+// Arbitration: the winner is the owner, with no asked time until the line rule sets one.
+fn grant(standing: Standing, left: &[u32; 16], inactive: &mut [bool; 16]) -> Acted
+    ensures { λ r. ⌜ r ≡ grantActed standing (now (left .entry)) (now (inactive .entry)) ⌝ }
+    ensures { λ r. ⌜ now (inactive .exit) ≡ grantMarks standing (now (left .entry)) (now (inactive .entry)) ⌝ }
+{
+    let time = act::arbitration_time();
+    if 4000000000 < standing.clock as u64 + time as u64 {
+        return full(standing);
+    }
+    let winner = channel::winner_of(left, inactive);
+    let active = settle(left, inactive, Phase::Granted(winner));
+    let clock = standing.clock + time;
+    let asked = asked_if(active, clock);
+    let tally = tally::add_grant(standing.tally);
+    Acted {
+        phase: Phase::Granted(winner),
+        asked: asked,
+        clock: clock,
+        tally: tally,
+        answer: StepAnswer::Done(Entry::Grant(clock, winner)),
+    }
+}
+
+// An owner without a request leaves where it is asked, and idles otherwise: the line is active exactly when there is an
+// asked time. After either, the line rule has nothing to do.
+fn rest(standing: Standing, owner: u8) -> Acted
+    ensures { λ r. ⌜ r ≡ restActed (standing .asked) standing owner ⌝ }
+{
+    let phase = standing.phase;
+    let asked = standing.asked;
+    let tally = standing.tally;
+    match asked {
+        Asked::Never => Acted {
+            phase: phase,
+            asked: Asked::Never,
+            clock: standing.clock,
+            tally: tally,
+            answer: StepAnswer::Done(Entry::Idle(standing.clock)),
+        },
+        Asked::At(t) => {
+            let hold = Hold::After(basics::less(standing.clock, t));
+            let longest = tally::add_release(tally, hold);
+            Acted {
+                phase: Phase::Arbitrating,
+                asked: Asked::Never,
+                clock: standing.clock,
+                tally: longest,
+                answer: StepAnswer::Done(Entry::Release(standing.clock, owner, hold)),
+            }
+        }
+    }
+}
+
+// How many bytes the next cycle of a request moves.
+fn bytes_of(path: Path, request: Request) -> u32
+    ensures { λ r. ⌜ r ≡ cycleBytes path request ⌝ }
+{
+    let q = cycle::narrow(path.width, path.port);
+    cycle::cycle_length(q, request.address, request.left)
+}
+
+// What is left of a request after one cycle of so many bytes.
+fn rest_after(path: Path, request: Request, bytes: u32) -> Request
+    requires { ⌜ bytes ≡ cycleBytes path request ⌝ }
     requires { ⌜ request .address + request .left ≤ 16777216 ⌝ }
     requires { ⌜ request .offset + request .left ≤ 65536 ⌝ }
     ensures { λ r. ⌜ r ≡ restAfter path request ⌝ }
 {
-    let bytes = cycle::cycle_length(
-        cycle::narrow(path.width, path.port),
-        request.address,
-        request.left,
-    );
     Request {
         direction: request.direction,
         space: request.space,
@@ -129,171 +252,251 @@ fn rest_after(path: Path, request: Request) -> Request
     }
 }
 
-// The channel with the owner's request moved on by one cycle, at the clock after it.
-fn move_on(path: Path, channel: Channel, owner: u8, slot: Request) -> Channel
-    requires { ⌜ channel .clock + path .time ≤ 4000000000 ⌝ }
-    ensures { λ r. ⌜ r ≡ withRequest (clocked channel (channel .clock + path .time)) owner slot ⌝ }
+// The bytes of one cycle: direction 0 goes from the slave to the master, 1 the other way.
+fn carry(path: Path, request: Request, bytes: u32, slave: &mut [u8], master: &mut [u8])
+    requires { ⌜ bytes ≡ cycleBytes path request ⌝ }
+    requires { ⌜ Roomy path request (length (now slave)) (length (now master)) ⌝ }
+    ensures { λ r. ⌜ now (slave .exit) ≡ movedSlave path request (now (slave .entry)) (now (master .entry)) ⌝ }
+    ensures { λ r. ⌜ now (master .exit) ≡ movedMaster path request (now (slave .entry)) (now (master .entry)) ⌝ }
 {
-    let mut next = channel;
-    next.clock = channel.clock + path.time;
-    channel::put_request(next, owner as usize, slot)
+    let place = path.start + (request.address - path.base) as usize;
+    let offset = request.offset as usize;
+    if request.direction == 0 {
+        basics::move_bytes(slave, place, master, offset, bytes as usize);
+    } else {
+        basics::move_bytes(master, offset, slave, place, bytes as usize);
+    }
 }
 
-// One cycle of the owner's request, and the line rule.
-fn turn_cycle(path: Path, channel: Channel, owner: u8, request: Request) -> Turned
-    requires { ⌜ channel .clock + path .time ≤ 4000000000 ⌝ }
-    requires { ⌜ request .address + request .left ≤ 16777216 ⌝ }
-    requires { ⌜ request .offset + request .left ≤ 65536 ⌝ }
-    ensures { λ r. ⌜ r ≡ cycleTurn path channel owner request ⌝ }
+// What a cycle with this ending leaves, and its entry.
+fn cycled(
+    path: Path,
+    standing: Standing,
+    owner: u8,
+    request: Request,
+    bytes: u32,
+    ending: Ending,
+) -> Acted
+    requires { ⌜ bytes ≡ cycleBytes path request ⌝ }
+    requires { ⌜ standing .clock + path .time ≤ 4000000000 ⌝ }
+    ensures { λ r. ⌜ r ≡ cycleActed path standing owner request ending ⌝ }
 {
-    let asked = channel.asked;
-    let clock = channel.clock + path.time;
-    let rest = rest_after(path, request);
-    let ending = act::ending_of(path, asked, clock, rest);
-    let next = move_on(path, channel, owner, act::slot_after(rest));
-    let after = channel::line_rule(act::ended_by(ending, next, owner as usize));
+    let clock = standing.clock + path.time;
     let entry = CycleEntry {
         clock: clock,
         level: owner,
         address: request.address,
-        bytes: cycle::cycle_length(
-            cycle::narrow(path.width, path.port),
-            request.address,
-            request.left,
-        ),
+        bytes: bytes,
         direction: request.direction,
         master: cycle::master_lane(path.width, request.address),
         slave: cycle::slave_lane(path.port, request.address),
         ending: ending,
     };
-    Turned {
-        channel: after,
-        entry: Entry::Cycle(entry),
+    let tally = tally::add_cycle(standing.tally, bytes, ending);
+    let phase = standing.phase;
+    let asked = standing.asked;
+    if act::is_kept(ending) {
+        return Acted {
+            phase: phase,
+            asked: asked,
+            clock: clock,
+            tally: tally,
+            answer: StepAnswer::Done(Entry::Cycle(entry)),
+        };
+    }
+    Acted {
+        phase: Phase::Arbitrating,
+        asked: Asked::Never,
+        clock: clock,
+        tally: tally,
+        answer: StepAnswer::Done(Entry::Cycle(entry)),
     }
 }
 
-// The winner is the owner, with no asked time until the line rule sets one.
-fn grant_to(channel: Channel, winner: u8) -> Channel
-    requires { ⌜ channel .clock + arbitrationTime channel ≤ 4000000000 ⌝ }
-    ensures { λ r. ⌜ r ≡ granted channel winner ⌝ }
+// One cycle of the owner's request. After it the line rule has nothing to do.
+fn cycle_on(
+    path: Path,
+    request: Request,
+    standing: Standing,
+    owner: u8,
+    inactive: &mut [bool; 16],
+    direction: &mut [u32; 16],
+    space: &mut [u32; 16],
+    address: &mut [u32; 16],
+    left: &mut [u32; 16],
+    offset: &mut [u32; 16],
+    slave: &mut [u8],
+    master: &mut [u8],
+) -> Acted
+    requires { ⌜ owner < 16 ⌝ }
+    requires { ⌜ request ≡ requestAt (now direction) (now space) (now address) (now left) (now offset) owner ⌝ }
+    requires { ⌜ isInactive (now inactive) owner ≡ false ⌝ }
+    requires { ⌜ Roomy path request (length (now slave)) (length (now master)) ⌝ }
+    ensures { λ r. ⌜ madeOf r (now (inactive .exit)) (now (direction .exit)) (now (space .exit)) (now (address .exit)) (now (left .exit)) (now (offset .exit)) (now (slave .exit)) (now (master .exit))
+        ≡ cycleMade path owner (channelOf standing (now (inactive .entry)) (now (direction .entry)) (now (space .entry)) (now (address .entry)) (now (left .entry)) (now (offset .entry))) (standing .tally) (now (slave .entry)) (now (master .entry)) ⌝ }
 {
-    let inactive = channel.inactive;
-    let direction = channel.direction;
-    let space = channel.space;
-    let address = channel.address;
-    let left = channel.left;
-    let offset = channel.offset;
-    Channel {
-        phase: Phase::Granted(winner),
-        asked: Asked::Never,
-        clock: channel.clock + act::arbitration_time(channel),
+    if 4000000000 < standing.clock as u64 + path.time as u64 {
+        return full(standing);
+    }
+    let bytes = bytes_of(path, request);
+    carry(path, request, bytes, slave, master);
+    let rest = rest_after(path, request, bytes);
+    let asked = standing.asked;
+    let ending = act::ending_of(path, asked, standing.clock + path.time, rest);
+    let slot = act::slot_after(rest);
+    let at = owner as usize;
+    direction[at] = slot.direction;
+    space[at] = slot.space;
+    address[at] = slot.address;
+    left[at] = slot.left;
+    offset[at] = slot.offset;
+    inactive[at] = act::is_marked(ending);
+    cycled(path, standing, owner, request, bytes, ending)
+}
+
+// The step of a sound channel over stores of the right lengths, on the lent arrays.
+fn act_on(
+    setup: Setup,
+    standing: Standing,
+    inactive: &mut [bool; 16],
+    direction: &mut [u32; 16],
+    space: &mut [u32; 16],
+    address: &mut [u32; 16],
+    left: &mut [u32; 16],
+    offset: &mut [u32; 16],
+    slave: &mut [u8],
+    master: &mut [u8],
+) -> Acted
+    requires { ⌜ Ready setup (channelOf standing (now inactive) (now direction) (now space) (now address) (now left) (now offset)) (length (now slave)) (length (now master)) ⌝ }
+    requires { ⌜ Shaped (channelOf standing (now inactive) (now direction) (now space) (now address) (now left) (now offset)) ⌝ }
+    ensures { λ r. ⌜ madeOf r (now (inactive .exit)) (now (direction .exit)) (now (space .exit)) (now (address .exit)) (now (left .exit)) (now (offset .exit)) (now (slave .exit)) (now (master .exit))
+        ≡ stepMade setup (channelOf standing (now (inactive .entry)) (now (direction .entry)) (now (space .entry)) (now (address .entry)) (now (left .entry)) (now (offset .entry))) (standing .tally) (now (slave .entry)) (now (master .entry)) ⌝ }
+{
+    let phase = standing.phase;
+    match phase {
+        Phase::Arbitrating => grant(standing, left, inactive),
+        Phase::Granted(owner) => {
+            let at = owner as usize;
+            let request = Request {
+                direction: direction[at],
+                space: space[at],
+                address: address[at],
+                left: left[at],
+                offset: offset[at],
+            };
+            if request.left == 0 {
+                return rest(standing, owner);
+            }
+            let path = act::path_of(setup, owner as u32, request);
+            cycle_on(
+                path,
+                request,
+                standing,
+                owner,
+                inactive,
+                direction,
+                space,
+                address,
+                left,
+                offset,
+                slave,
+                master,
+            )
+        }
+    }
+}
+
+// What a step leaves, put together again.
+fn stepped_by(
+    acted: Acted,
+    inactive: [bool; 16],
+    direction: [u32; 16],
+    space: [u32; 16],
+    address: [u32; 16],
+    left: [u32; 16],
+    offset: [u32; 16],
+) -> Stepped
+    ensures { λ r. ⌜ r ≡ steppedOf acted inactive direction space address left offset ⌝ }
+{
+    let phase = acted.phase;
+    let asked = acted.asked;
+    let tally = acted.tally;
+    let answer = acted.answer;
+    let channel = Channel {
+        phase: phase,
+        asked: asked,
+        clock: acted.clock,
         inactive: inactive,
         direction: direction,
         space: space,
         address: address,
         left: left,
         offset: offset,
-    }
-}
-
-// A grant, where the clock has room for it.
-fn turn_grant(channel: Channel, winner: u8) -> Turned
-    requires { ⌜ channel .clock + arbitrationTime channel ≤ 4000000000 ⌝ }
-    ensures { λ r. ⌜ r ≡ grantTurn channel winner ⌝ }
-{
-    let next = channel::line_rule(grant_to(channel, winner));
-    let clock = channel.clock + act::arbitration_time(channel);
-    Turned {
-        channel: next,
-        entry: Entry::Grant(clock, winner),
-    }
-}
-
-// The bytes of one cycle: direction 0 goes from the slave to the master, 1 the other way.
-fn carry(path: Path, request: Request, slave: &mut [u8], master: &mut [u8])
-    requires { ⌜ path .base ≤ request .address ⌝ }
-    requires { ⌜ path .start ≤ 65536 ⌝ }
-    requires { ⌜ path .start + (request .address - path .base) + request .left ≤ length (now slave) ⌝ }
-    requires { ⌜ request .offset + request .left ≤ length (now master) ⌝ }
-    ensures { λ r. ⌜ now (slave .exit) ≡ movedSlave path request (now (slave .entry)) (now (master .entry)) ⌝ }
-    ensures { λ r. ⌜ now (master .exit) ≡ movedMaster path request (now (slave .entry)) (now (master .entry)) ⌝ }
-{
-    let bytes = cycle::cycle_length(
-        cycle::narrow(path.width, path.port),
-        request.address,
-        request.left,
-    ) as usize;
-    let place = path.start + (request.address - path.base) as usize;
-    let offset = request.offset as usize;
-    if request.direction == 0 {
-        basics::move_bytes(slave, place, master, offset, bytes);
-    } else {
-        basics::move_bytes(master, offset, slave, place, bytes);
-    }
-}
-
-// A step that was taken, as an answer.
-fn finished(turned: Turned) -> Advanced
-    ensures { λ r. ⌜ r ≡ doneBy turned ⌝ }
-{
-    let channel = turned.channel;
-    let entry = turned.entry;
-    Advanced {
+    };
+    Stepped {
         channel: channel,
-        answer: StepAnswer::Done(entry),
+        tally: tally,
+        answer: answer,
     }
 }
 
-// One cycle of the owner's request: the bytes are moved, the request goes on, and the line rule follows.
-fn cycle_step(
+// The same step on a channel: its arrays are locals, lent to the act and changed in place.
+fn advance_in_place(
     setup: Setup,
     channel: Channel,
-    owner: u8,
+    tally: Tally,
     slave: &mut [u8],
     master: &mut [u8],
-) -> Advanced
-    requires { ⌜ Able (pathOf setup owner (requestOf channel owner)) channel (requestOf channel owner) (length (now slave)) (length (now master)) ⌝ }
-    ensures { λ r. ⌜ r ≡ advancedBy setup channel (Plan.Cycle owner) ⌝ }
-    ensures { λ r. ⌜ now (slave .exit) ≡ slaveBy setup channel (Plan.Cycle owner) (now (slave .entry)) (now (master .entry)) ⌝ }
-    ensures { λ r. ⌜ now (master .exit) ≡ masterBy setup channel (Plan.Cycle owner) (now (slave .entry)) (now (master .entry)) ⌝ }
-{
-    let request = channel::request_of(channel, owner as usize);
-    let path = act::path_of(setup, owner as u32, request);
-    carry(path, request, slave, master);
-    finished(turn_cycle(path, channel, owner, request))
-}
-
-// The step of a sound channel over stores of the right lengths.
-fn advance(setup: Setup, channel: Channel, slave: &mut [u8], master: &mut [u8]) -> Advanced
+) -> Stepped
     requires { ⌜ Ready setup channel (length (now slave)) (length (now master)) ⌝ }
-    ensures { λ r. ⌜ r ≡ advancedBy setup channel (actPlan setup channel) ⌝ }
-    ensures { λ r. ⌜ now (slave .exit) ≡ slaveBy setup channel (actPlan setup channel) (now (slave .entry)) (now (master .entry)) ⌝ }
-    ensures { λ r. ⌜ now (master .exit) ≡ masterBy setup channel (actPlan setup channel) (now (slave .entry)) (now (master .entry)) ⌝ }
+    requires { ⌜ Shaped channel ⌝ }
+    ensures { λ r. ⌜ r ≡ stepMade setup channel tally (now (slave .entry)) (now (master .entry)) .stepped ⌝ }
+    ensures { λ r. ⌜ now (slave .exit) ≡ stepMade setup channel tally (now (slave .entry)) (now (master .entry)) .slave ⌝ }
+    ensures { λ r. ⌜ now (master .exit) ≡ stepMade setup channel tally (now (slave .entry)) (now (master .entry)) .master ⌝ }
 {
-    let plan = act_plan(setup, channel);
-    match plan {
-        Plan::Idle => Advanced {
-            channel: channel,
-            answer: StepAnswer::Done(Entry::Idle(channel.clock)),
-        },
-        Plan::Refused(why) => Advanced {
-            channel: channel,
-            answer: StepAnswer::Refused(why),
-        },
-        Plan::Grant(winner) => finished(turn_grant(channel, winner)),
-        Plan::Leave(owner) => finished(act::turn_leave(channel, owner)),
-        Plan::Cycle(owner) => cycle_step(setup, channel, owner, slave, master),
-    }
+    let phase = channel.phase;
+    let asked = channel.asked;
+    let standing = Standing {
+        phase: phase,
+        asked: asked,
+        clock: channel.clock,
+        tally: tally,
+    };
+    let mut inactive = channel.inactive;
+    let mut direction = channel.direction;
+    let mut space = channel.space;
+    let mut address = channel.address;
+    let mut left = channel.left;
+    let mut offset = channel.offset;
+    let acted = act_on(
+        setup,
+        standing,
+        &mut inactive,
+        &mut direction,
+        &mut space,
+        &mut address,
+        &mut left,
+        &mut offset,
+        slave,
+        master,
+    );
+    stepped_by(acted, inactive, direction, space, address, left, offset)
 }
 
-// The tally by a step's answer: a refused step leaves it.
-fn tally_by(tally: Tally, answer: StepAnswer) -> Tally
-    ensures { λ r. ⌜ r ≡ tallyBy tally answer ⌝ }
+// The step of a sound channel over stores of the right lengths; that an array of the channel has sixteen places is seen here.
+fn advance(
+    setup: Setup,
+    channel: Channel,
+    tally: Tally,
+    slave: &mut [u8],
+    master: &mut [u8],
+) -> Stepped
+    requires { ⌜ Ready setup channel (length (now slave)) (length (now master)) ⌝ }
+    ensures { λ r. ⌜ r ≡ stepMade setup channel tally (now (slave .entry)) (now (master .entry)) .stepped ⌝ }
+    ensures { λ r. ⌜ now (slave .exit) ≡ stepMade setup channel tally (now (slave .entry)) (now (master .entry)) .slave ⌝ }
+    ensures { λ r. ⌜ now (master .exit) ≡ stepMade setup channel tally (now (slave .entry)) (now (master .entry)) .master ⌝ }
 {
-    match answer {
-        StepAnswer::Done(entry) => tally::add_entry(tally, entry),
-        StepAnswer::Refused(_) => tally,
-    }
+    advance_in_place(setup, channel, tally, slave, master)
 }
 
 // One step. A refused step gives back the channel and the tally that it got and writes to no store.
@@ -315,16 +518,6 @@ pub fn step(
             tally: tally,
             answer: StepAnswer::Refused(why),
         },
-        Verdict::Accepted => {
-            let next = advance(setup, channel, slave, master);
-            let after = next.channel;
-            let answer = next.answer;
-            let figures = tally_by(tally, answer);
-            Stepped {
-                channel: after,
-                tally: figures,
-                answer: answer,
-            }
-        }
+        Verdict::Accepted => advance(setup, channel, tally, slave, master),
     }
 }

@@ -1,4 +1,5 @@
 use Rattle.act.specs.Cycle.{pathOf}
+use Rattle.sound.specs.Rows.{slaveOf, slaveOr, startOf, startOr}
 use borrow.Author.Needs.{needs}
 use mathlib.Core.Path.{_≡_, refl, sym, ap, _∙_}
 use Rattle.act.proofs.path_of.Statement.{statement}
@@ -7,20 +8,31 @@ use Rattle.act.proofs.path_of.Tie as tie
 level-of-requires : tie.Need-level-of-requires
 level-of-requires c κs = search needs
 
-slave-of-requires : tie.Need-slave-of-requires
-slave-of-requires c κs = search needs
-
-start-of-requires : tie.Need-start-of-requires
-start-of-requires c κs = search needs
-
 allowance-of-requires : tie.Need-allowance-of-requires
 allowance-of-requires c κs = search needs
 
+slave-row-requires : tie.Need-slave-row-requires
+slave-row-requires c κs = search needs
+
+enum-told : tie.Need-enum-told
+enum-told c = search needs
+
+enum-known-found : tie.Need-enum-known-found
+enum-known-found c = search needs
+
 returns : tie.Need-returns
-unfolding pathOf
-returns c = rw (c .allowance-of .ensures, c .before .start-of .ensures, c .before .before .slave-of .ensures, c .before .before .before .level-of .ensures)
+unfolding pathOf slaveOf startOf
+returns c =
+    let e = sym (c .before .before .slave-row .ensures .0) ∙ c .enum-told .given .1 in
+    rw (e, c .before .before .before .allowance-of .ensures, c .before .before .before .before .level-of .ensures)
+
+returns-2 : tie.Need-returns-2
+unfolding pathOf slaveOf startOf
+returns-2 c =
+    let e = sym (c .before .before .before .slave-row .ensures .0) ∙ c .before .found .given .1 in
+    rw (e, c .before .before .before .before .allowance-of .ensures, c .before .before .before .before .before .level-of .ensures)
 
 pub path-of-spec : {M : Type 1} → statement M
 path-of-spec =
     tie.close
-    (tie.spec level-of-requires slave-of-requires start-of-requires allowance-of-requires returns)
+    (tie.spec level-of-requires allowance-of-requires slave-row-requires enum-told enum-known-found returns returns-2)

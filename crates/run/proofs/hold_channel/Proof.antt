@@ -6,7 +6,8 @@ use mathlib.Core.Bool.{true, false}
 use lib.ListN.{length}
 use borrow.Author.Needs.{needs}
 use borrow.Author.Tests.{not-true, not-false}
-use Rattle.run.specs.Turns.{Held, held, isKept}
+use Rattle.run.specs.Turns.{Held, held}
+use Rattle.act.specs.Cycle.{isKept}
 use Rattle.run.proofs.HeldLaws.{held-full, held-ends, held-on, roomy-on, cycled-facts, bytes-by}
 use Rattle.run.specs.declared.Tenure.{Tenure}
 use Rattle.run.proofs.hold_channel.Statement.{statement}

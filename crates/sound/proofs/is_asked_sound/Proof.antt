@@ -1,8 +1,11 @@
-use Rattle.sound.specs.Sound.{isAskedSound, askedSound}
-use borrow.Author.Needs.{needs}
+use Rattle.sound.specs.Tables.{askedFits}
 use mathlib.Core.Path.{_≡_, refl, sym, ap, ap₂, _∙_}
+use borrow.Author.Needs.{needs}
 use Rattle.sound.proofs.is_asked_sound.Statement.{statement}
 use Rattle.sound.proofs.is_asked_sound.Tie as tie
+use Rattle.sound.proofs.is_asked_sound.Reads as reads
+use Rattle.sound.proofs.is_asked_sound.Lts as lts
+use Rattle.sound.proofs.is_asked_at.Reads as is-asked-at-reads
 
 enum-told : tie.Need-enum-told
 enum-told c = search needs
@@ -26,30 +29,26 @@ is-asked-at-requires : tie.Need-is-asked-at-requires
 is-asked-at-requires c κs = search needs
 
 returns : tie.Need-returns
-unfolding isAskedSound
 returns c =
     let a = c .before .before .before .before .args in
-    sym (ap₂ (askedSound (a .setup) (a .channel) (a .active)) (c .enum-told2 .given .1) (c .before .before .enum-told .given .1))
+    sym (ap₂ (askedFits (a .setup) (a .request) (a .clock) (a .active)) (c .enum-told2 .given .1) (c .before .before .enum-told .given .1))
 
 returns-2 : tie.Need-returns-2
-unfolding isAskedSound
 returns-2 c =
     let a = c .before .before .before .before .args in
-    sym (ap₂ (askedSound (a .setup) (a .channel) (a .active)) (c .enum-told3 .given .1) (c .before .before .enum-told .given .1))
+    sym (ap₂ (askedFits (a .setup) (a .request) (a .clock) (a .active)) (c .enum-told3 .given .1) (c .before .before .enum-told .given .1))
 
 returns-3 : tie.Need-returns-3
-unfolding isAskedSound
 returns-3 c =
     let a = c .before .before .before .before .before .args in
-    sym (ap₂ (askedSound (a .setup) (a .channel) (a .active)) (c .enum-told4 .given .1) (c .before .before .before .asked .given .1))
+    sym (ap₂ (askedFits (a .setup) (a .request) (a .clock) (a .active)) (c .enum-told4 .given .1) (c .before .before .before .asked .given .1))
 
 returns-4 : tie.Need-returns-4
-unfolding isAskedSound
 returns-4 c =
     let a = c .before .before .before .before .before .before .before .args in
     c .is-asked-at .ensures
     ∙ sym
-    (ap₂ (askedSound (a .setup) (a .channel) (a .active)) (c .before .before .phase .given .1)
+    (ap₂ (askedFits (a .setup) (a .request) (a .clock) (a .active)) (c .before .before .phase .given .1)
     (c .before .before .before .before .before .asked .given .1))
 
 pub is-asked-sound-spec : {M : Type 1} → statement M

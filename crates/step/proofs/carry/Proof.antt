@@ -1,20 +1,14 @@
+use Rattle.step.specs.Step.{movedSlave, movedMaster, placeFor}
 use Rattle.basics.proofs.MoveLaws.{moved-inside}
 use native.Mathlib.Omega.{arith}
-use Rattle.step.specs.Step.{movedSlave, movedMaster, placeFor}
-use borrow.Author.Needs.{needs}
 use borrow.Author.Tests.{eq-eqb, ne-eqb}
 use mathlib.Core.Path.{_≡_, refl, sym, ap, _∙_}
+use borrow.Author.Needs.{needs}
 use Rattle.step.proofs.carry.Statement.{statement}
 use Rattle.step.proofs.carry.Tie as tie
-
-narrow-requires : tie.Need-narrow-requires
-narrow-requires c κs = search needs
-
-cycle-length-requires : tie.Need-cycle-length-requires
-cycle-length-requires c κs = search needs
-
-cast-bytes : tie.Need-cast-bytes
-cast-bytes c = search needs
+use Rattle.step.proofs.carry.Reads as reads
+use Rattle.step.proofs.carry.Lts as lts
+use Rattle.basics.proofs.move_bytes.Reads as move-bytes-reads
 
 sub-place : tie.Need-sub-place
 sub-place c = search needs
@@ -43,11 +37,11 @@ same-length-2 c = search needs
 returns : tie.Need-returns
 unfolding movedSlave movedMaster placeFor
 returns c =
-    let e = eq-eqb _ 0 (c .before .before .before .before .before .if1 .taken) in
-    let n = c .before .before .before .before .before .before .before .before .before .before .before .cycle-length .ensures in
-    let w = c .before .before .before .before .before .before .before .before .before .before .before .before .narrow .ensures in
-    let p = c .before .before .before .before .before .before .before .before .before .before .before .before .before .before .before .pre in
-    (rw e, rw (e, ← w, ← n) (c .before .before .move-bytes .ensures ∙ moved-inside _ _ _ _ _ (omega (arith, n, p .1 .1 .0)) (omega (arith, n, p .1 .1 .1))))
+    let five = c .before .before .before .before .before in
+    let ten = five .before .before .before .before .before in
+    let e = eq-eqb _ 0 (five .if1 .taken) in
+    let p = ten .before .before .before .pre in
+    (rw e, rw (e, ← p .0) (c .before .before .move-bytes .ensures ∙ moved-inside _ _ _ _ _ (omega (arith, p .0, p .1 .slave)) (omega (arith, p .0, p .1 .master))))
 
 same-length-3 : tie.Need-same-length-3
 same-length-3 c = search needs
@@ -58,19 +52,16 @@ same-length-4 c = search needs
 returns-2 : tie.Need-returns-2
 unfolding movedSlave movedMaster placeFor
 returns-2 c =
-    let e = ne-eqb _ 0 (c .before .before .before .before .before .if1 .left) in
-    let n = c .before .before .before .before .before .before .before .before .before .before .before .cycle-length .ensures in
-    let w = c .before .before .before .before .before .before .before .before .before .before .before .before .narrow .ensures in
-    let p = c .before .before .before .before .before .before .before .before .before .before .before .before .before .before .before .pre in
-    (rw (e, ← w, ← n) (c .before .before .move-bytes2 .ensures ∙ moved-inside _ _ _ _ _ (omega (arith, n, p .1 .1 .1)) (omega (arith, n, p .1 .1 .0))), rw e)
+    let five = c .before .before .before .before .before in
+    let ten = five .before .before .before .before .before in
+    let e = ne-eqb _ 0 (five .if1 .left) in
+    let p = ten .before .before .before .pre in
+    (rw (e, ← p .0) (c .before .before .move-bytes2 .ensures ∙ moved-inside _ _ _ _ _ (omega (arith, p .0, p .1 .master)) (omega (arith, p .0, p .1 .slave))), rw e)
 
 pub carry-spec : {M : Type 1} → statement M
 carry-spec =
     tie.close
     (tie.spec
-    narrow-requires
-    cycle-length-requires
-    cast-bytes
     sub-place
     cast-place
     add-place

@@ -1,21 +1,31 @@
+use Rattle.frame.proofs.SlaveLaws.{store-broken, store-length}
 use Rattle.step.specs.Plan.{readyVerdict}
-use borrow.Author.Needs.{needs}
 use mathlib.Core.Path.{_≡_, refl, sym, ap, _∙_}
+use borrow.Author.Needs.{needs}
 use Rattle.step.proofs.ready_verdict.Statement.{statement}
 use Rattle.step.proofs.ready_verdict.Tie as tie
+use Rattle.step.proofs.ready_verdict.Reads as reads
+use Rattle.step.proofs.ready_verdict.Lts as lts
+use Rattle.frame.proofs.framed_store.Reads as framed-store-reads
+use Rattle.sound.proofs.is_sound.Reads as is-sound-reads
 
-is-framed-requires : tie.Need-is-framed-requires
-is-framed-requires c κs = search needs
+framed-store-requires : tie.Need-framed-store-requires
+framed-store-requires c κs = search needs
+
+enum-told : tie.Need-enum-told
+enum-told c = search needs
+
+enum-known-store : tie.Need-enum-known-store
+enum-known-store c = search needs
 
 is-sound-requires : tie.Need-is-sound-requires
 is-sound-requires c κs = search needs
 
 returns : tie.Need-returns
 unfolding readyVerdict
-returns c = rw (← c .before .before .is-framed .ensures, ← c .before .is-sound .ensures, c .if1 .taken)
-
-slave-store-length-requires : tie.Need-slave-store-length-requires
-slave-store-length-requires c κs = search needs
+returns c =
+    let k = store-length _ _ (sym (c .before .before .before .before .before .framed-store .ensures) ∙ c .before .before .before .store .given .1) in
+    rw (k .0, ← c .before .is-sound .ensures, c .if1 .taken)
 
 cast-if2 : tie.Need-cast-if2
 cast-if2 c = search needs
@@ -23,33 +33,29 @@ cast-if2 c = search needs
 returns-2 : tie.Need-returns-2
 unfolding readyVerdict
 returns-2 c =
-    rw (
-      ← c .before .before .before .before .before .before .is-framed .ensures,
-      ← c .before .before .before .before .before .is-sound .ensures,
-      c .before .before .before .before .if1 .left,
-      ← c .before .before .slave-store-length .ensures,
-      c .if2 .taken,
-    )
+    let k = store-length _ _ (sym (c .before .before .before .before .before .before .before .framed-store .ensures) ∙ c .before .before .before .before .before .store .given .1) in
+    rw (k .0, ← c .before .before .before .is-sound .ensures, c .before .before .if1 .left, ← k .1, c .if2 .taken)
 
 returns-3 : tie.Need-returns-3
 unfolding readyVerdict
-returns-3 c =
-    rw (
-      ← c .before .before .before .before .before .before .is-framed .ensures,
-      ← c .before .before .before .before .before .is-sound .ensures,
-      c .before .before .before .before .if1 .left,
-      ← c .before .before .slave-store-length .ensures,
-      c .if2 .left,
-    )
+returns-3 c = rw (store-broken _ (sym (c .before .before .framed-store .ensures) ∙ c .enum-told .given .1))
+
+returns-4 : tie.Need-returns-4
+unfolding readyVerdict
+returns-4 c =
+    let k = store-length _ _ (sym (c .before .before .before .before .before .before .before .framed-store .ensures) ∙ c .before .before .before .before .before .store .given .1) in
+    rw (k .0, ← c .before .before .before .is-sound .ensures, c .before .before .if1 .left, ← k .1, c .if2 .left)
 
 pub ready-verdict-spec : {M : Type 1} → statement M
 ready-verdict-spec =
     tie.close
     (tie.spec
-    is-framed-requires
+    framed-store-requires
+    enum-told
+    enum-known-store
     is-sound-requires
     returns
-    slave-store-length-requires
     cast-if2
     returns-2
-    returns-3)
+    returns-3
+    returns-4)

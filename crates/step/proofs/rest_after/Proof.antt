@@ -1,13 +1,10 @@
 use Rattle.act.specs.Cycle.{restAfter}
+use mathlib.Core.Path.{_≡_, refl, sym, ap, _∙_}
 use borrow.Author.Needs.{needs}
 use Rattle.step.proofs.rest_after.Statement.{statement}
 use Rattle.step.proofs.rest_after.Tie as tie
-
-narrow-requires : tie.Need-narrow-requires
-narrow-requires c κs = search needs
-
-cycle-length-requires : tie.Need-cycle-length-requires
-cycle-length-requires c κs = search needs
+use Rattle.step.proofs.rest_after.Reads as reads
+use Rattle.step.proofs.rest_after.Lts as lts
 
 add-t4 : tie.Need-add-t4
 add-t4 c = search needs
@@ -20,8 +17,7 @@ add-t6 c = search needs
 
 returns : tie.Need-returns
 unfolding restAfter
-returns c = rw (c .before .before .before .cycle-length .ensures, c .before .before .before .before .narrow .ensures)
+returns c = rw (c .before .before .before .pre .0)
 
 pub rest-after-spec : {M : Type 1} → statement M
-rest-after-spec =
-    tie.close (tie.spec narrow-requires cycle-length-requires add-t4 sub-t5 add-t6 returns)
+rest-after-spec = tie.close (tie.spec add-t4 sub-t5 add-t6 returns)

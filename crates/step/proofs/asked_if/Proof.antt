@@ -1,0 +1,15 @@
+use mathlib.Core.Path.{_≡_, refl, sym, ap, _∙_}
+use borrow.Author.Needs.{needs}
+use Rattle.step.proofs.asked_if.Statement.{statement}
+use Rattle.step.proofs.asked_if.Tie as tie
+use Rattle.step.proofs.asked_if.Reads as reads
+use Rattle.step.proofs.asked_if.Lts as lts
+
+returns : tie.Need-returns
+returns c = rw (c .if1 .taken)
+
+returns-2 : tie.Need-returns-2
+returns-2 c = search needs
+
+pub asked-if-spec : {M : Type 1} → statement M
+asked-if-spec = tie.close (tie.spec returns returns-2)

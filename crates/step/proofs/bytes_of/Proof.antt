@@ -1,0 +1,20 @@
+use mathlib.Core.Path.{_≡_, refl, sym, ap, _∙_}
+use borrow.Author.Needs.{needs}
+use Rattle.step.proofs.bytes_of.Statement.{statement}
+use Rattle.step.proofs.bytes_of.Tie as tie
+use Rattle.step.proofs.bytes_of.Reads as reads
+use Rattle.step.proofs.bytes_of.Lts as lts
+use Rattle.cycle.proofs.cycle_length.Reads as cycle-length-reads
+use Rattle.cycle.proofs.narrow.Reads as narrow-reads
+
+narrow-requires : tie.Need-narrow-requires
+narrow-requires c κs = search needs
+
+cycle-length-requires : tie.Need-cycle-length-requires
+cycle-length-requires c κs = search needs
+
+returns : tie.Need-returns
+returns c = rw (← c .before .narrow .ensures) (c .cycle-length .ensures)
+
+pub bytes-of-spec : {M : Type 1} → statement M
+bytes-of-spec = tie.close (tie.spec narrow-requires cycle-length-requires returns)
