@@ -21,7 +21,7 @@ use Rattle.act.specs.declared.Ending.{Ending}
 use Rattle.act.specs.declared.Ending.the-variants.{Kept, Released, Marked}
 use Rattle.act.specs.declared.CycleEntry.{CycleEntry}
 use Rattle.act.specs.declared.Entry.the-variants.{Cycle}
-use Rattle.act.specs.declared.Turned.{Turned}
+use Rattle.act.specs.declared.Entry.{Entry}
 
 -- what the owner's row and the slave's say of a request's cycles
 unfoldable pub pathOf : Setup → ℕ → Request → Path
@@ -147,6 +147,11 @@ cycleEntry path ch owner q =
       slave = slaveLane (path .port) (q .address);
       ending = endingOf path (ch .asked) (ch .clock + path .time) (restAfter path q);
     }
+
+-- a step that was taken: the channel after it, and its entry
+pub record Turned : Type 0 where
+  pub channel : Channel
+  pub entry : Entry
 
 -- the cycle, and then the line rule
 unfoldable pub cycleTurn : Path → Channel → ℕ → Request → Turned

@@ -8,8 +8,7 @@ use Rattle.channel.specs.Line.{lineRule}
 use Rattle.act.specs.declared.Hold.{Hold}
 use Rattle.act.specs.declared.Hold.the-variants.{Unasked, After}
 use Rattle.act.specs.declared.Entry.the-variants.{Idle, Grant, Release}
-use Rattle.act.specs.declared.Turned.{Turned}
-use Rattle.act.specs.Cycle.{freed}
+use Rattle.act.specs.Cycle.{freed, Turned}
 
 -- "The clock grows by 100 (002, T44)."
 unfoldable pub arbitrationTime : ℕ

@@ -1,7 +1,6 @@
 // The decisions of a step (document 01, "One step"): where a request's bytes go, whether the owner releases at the end of a
 // transfer and is marked, how long an arbitration takes. Log entries are declared here.
 use channel::Asked;
-use channel::Channel;
 use channel::Request;
 use frame::FoundSlave;
 use frame::Setup;
@@ -50,12 +49,6 @@ pub enum Entry {
     Grant(u32, u8),
     Cycle(CycleEntry),
     Release(u32, u8, Hold),
-}
-
-// A step that was taken: the channel after it, and its entry. The definitions speak of it.
-pub struct Turned {
-    pub channel: Channel,
-    pub entry: Entry,
 }
 
 // The path of a level's request: one search finds the slave row and where its bytes start.

@@ -4,6 +4,7 @@ use frame::Setup;
 use refusal::Refusal;
 use refusal::Verdict;
 ghost use mathlib.Core.Path.{_≡_};
+ghost use mathlib.Core.Bool.{cond};
 ghost use Rattle.channel.specs.Channel.{ownerOf, placeIn, requestOf, withRequest, fresh, setUp};
 ghost use Rattle.channel.specs.Line.{lineActive, winner, cleared, askedNow, timed, lineRule};
 
@@ -148,6 +149,16 @@ fn clear_marks(channel: Channel) -> Channel
     next
 }
 
+// An active line sets the asked time to the clock.
+pub fn asked_if(active: bool, clock: u32) -> Asked
+    ensures { λ r. ⌜ r ≡ cond active (Asked.At clock) Asked.Never ⌝ }
+{
+    if active {
+        return Asked::At(clock);
+    }
+    Asked::Never
+}
+
 // Line rule 2: while granted, an active line with no asked time sets it to the clock; while arbitrating there is none.
 fn asked_now(phase: Phase, asked: Asked, active: bool, clock: u32) -> Asked
     ensures { λ r. ⌜ r ≡ askedNow phase asked active clock ⌝ }
@@ -156,11 +167,7 @@ fn asked_now(phase: Phase, asked: Asked, active: bool, clock: u32) -> Asked
         Phase::Arbitrating => Asked::Never,
         Phase::Granted(_) => match asked {
             Asked::At(t) => Asked::At(t),
-            Asked::Never => if active {
-                Asked::At(clock)
-            } else {
-                Asked::Never
-            },
+            Asked::Never => asked_if(active, clock),
         },
     }
 }

@@ -18,9 +18,8 @@ use Rattle.sound.proofs.SoundFacts.{sound-is, sound-by}
 use Rattle.step.specs.declared.Plan.{Plan}
 use Rattle.step.specs.declared.Plan.the-variants as plan
 use Rattle.step.specs.declared.StepAnswer.the-variants.{Done, Refused as NotDone}
-use Rattle.step.specs.declared.Advanced.{Advanced}
 use Rattle.step.specs.Plan.{actPlan, planOf}
-use Rattle.step.specs.Step.{Ready, advancedBy, stepOf, slaveBy, masterBy, slaveAfter, masterAfter}
+use Rattle.step.specs.Step.{Advanced, Ready, advancedBy, stepOf, slaveBy, masterBy, slaveAfter, masterAfter}
 use Rattle.run.specs.Run.{World, world, ended, stepIn, after, runFrom}
 use Rattle.step.proofs.PlanLaws.{plan-ready, refused-still}
 use Rattle.step.proofs.KeepLaws.{step-sound, step-shaped}

@@ -3,7 +3,7 @@
 use Prim.Native.Nat.{ℕ, zero, suc, _+_, _-_, _≤_, _<_}
 use mathlib.Core.Path.{_≡_}
 use mathlib.Core.Bool.{Bool, true, false, cond, _||_}
-use mathlib.Core.List.{List}
+use mathlib.Core.List.{List, []}
 use lib.ListN.{length, getD, replicate}
 use lib.Dec.{eqb, ltb}
 use Rattle.refusal.specs.declared.Refusal.the-variants.{ClockFull}
@@ -29,6 +29,7 @@ use Rattle.act.specs.Turn.{arbitrationTime}
 use Rattle.tally.specs.declared.Tally.{Tally}
 use Rattle.tally.specs.Tally.{addGrant, addCycle, addRelease}
 use Rattle.step.specs.Step.{Roomy, movedSlave, movedMaster}
+use Rattle.run.specs.declared.Ran.{Ran}
 use Rattle.run.specs.declared.State.{State}
 use Rattle.run.specs.declared.Tenure.{Tenure}
 use Rattle.run.specs.declared.Route.{Route}
@@ -228,6 +229,16 @@ stateAfter s t =
 
 abbrev pub verdictIf : Bool → Verdict
 verdictIf full = cond full (Refused ClockFull) Accepted
+
+-- what a run gives, with the arrays after it
+abbrev pub ranOf : State → List Bool → List ℕ → List ℕ → List ℕ → List ℕ → List ℕ → Ran
+ranOf s inactive direction space address left offset =
+    record {
+      channel = runningOf s inactive direction space address left offset [] [] .channel;
+      tally = s .tally;
+      steps = s .done;
+      verdict = verdictIf (s .full);
+    }
 
 -- what is still to come of a run
 abbrev pub worldOf : Running → World

@@ -13,7 +13,7 @@ use refusal::Refusal;
 use refusal::Verdict;
 use tally::Tally;
 ghost use mathlib.Core.Path.{_≡_};
-ghost use mathlib.Core.Bool.{true, false, cond, not};
+ghost use mathlib.Core.Bool.{true, false, not};
 ghost use Prim.Native.Nat.{_+_, _-_, _%_, _≤_, _<_};
 ghost use lib.Dec.{eqb};
 ghost use lib.ListN.{length, drop};
@@ -27,7 +27,7 @@ ghost use Rattle.step.specs.Step.{Ready, Roomy, movedSlave, movedMaster};
 ghost use Rattle.run.specs.Run.{world, runFrom, runBy, runOf};
 ghost use Rattle.run.specs.Turns.{waitsFrom, marksAfter, filledState, arbitrated, arbitratedMarks, rested};
 ghost use Rattle.run.specs.Turns.{routeOf, AreRoutes, Routed, Turnable, cycled, filled, held};
-ghost use Rattle.run.specs.Turns.{stateAfter, runningOf, cyclesRun, turnOf, verdictIf};
+ghost use Rattle.run.specs.Turns.{stateAfter, runningOf, cyclesRun, turnOf, verdictIf, ranOf};
 
 // The channel and the tally after a run, the steps done, and why it was refused or stopped, if it was.
 pub struct Ran {
@@ -92,15 +92,6 @@ fn settle(left: &[u32; 16], inactive: &mut [bool; 16], owner: u8) -> bool
     channel::line_active(left, inactive, Phase::Granted(owner))
 }
 
-fn asked_if(active: bool, clock: u32) -> Asked
-    ensures { λ r. ⌜ r ≡ cond active (Asked.At clock) Asked.Never ⌝ }
-{
-    if active {
-        return Asked::At(clock);
-    }
-    Asked::Never
-}
-
 fn filled_state(state: State) -> State
     ensures { λ r. ⌜ r ≡ filledState state ⌝ }
 {
@@ -130,7 +121,7 @@ fn arbitrate(state: State, left: &[u32; 16], inactive: &mut [bool; 16]) -> State
     let owner = channel::winner_of(left, inactive);
     let active = settle(left, inactive, owner);
     let clock = state.clock + time;
-    let asked = asked_if(active, clock);
+    let asked = channel::asked_if(active, clock);
     let tally = tally::add_grant(state.tally);
     State {
         phase: Phase::Granted(owner),
@@ -597,6 +588,41 @@ fn verdict_of(full: bool) -> Verdict
     Verdict::Accepted
 }
 
+// What a run leaves, put together again.
+fn ran_by(
+    state: State,
+    inactive: [bool; 16],
+    direction: [u32; 16],
+    space: [u32; 16],
+    address: [u32; 16],
+    left: [u32; 16],
+    offset: [u32; 16],
+) -> Ran
+    ensures { λ r. ⌜ r ≡ ranOf state inactive direction space address left offset ⌝ }
+{
+    let phase = state.phase;
+    let asked = state.asked;
+    let tally = state.tally;
+    let channel = Channel {
+        phase: phase,
+        asked: asked,
+        clock: state.clock,
+        inactive: inactive,
+        direction: direction,
+        space: space,
+        address: address,
+        left: left,
+        offset: offset,
+    };
+    let verdict = verdict_of(state.full);
+    Ran {
+        channel: channel,
+        tally: tally,
+        steps: state.done,
+        verdict: verdict,
+    }
+}
+
 // Up to `budget` steps of a sound channel over stores of the right lengths.
 fn run_steps(
     setup: Setup,
@@ -648,27 +674,7 @@ fn run_steps(
             budget,
         );
     }
-    let last_phase = state.phase;
-    let last_asked = state.asked;
-    let last = Channel {
-        phase: last_phase,
-        asked: last_asked,
-        clock: state.clock,
-        inactive: inactive,
-        direction: direction,
-        space: space,
-        address: address,
-        left: left,
-        offset: offset,
-    };
-    let figures = state.tally;
-    let verdict = verdict_of(state.full);
-    Ran {
-        channel: last,
-        tally: figures,
-        steps: state.done,
-        verdict: verdict,
-    }
+    ran_by(state, inactive, direction, space, address, left, offset)
 }
 
 // A run over a sound channel and stores of the right lengths: refusal 7, or its steps.

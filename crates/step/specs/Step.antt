@@ -18,14 +18,17 @@ use Rattle.tally.specs.Tally.{addEntry}
 use Rattle.act.specs.declared.Path.{Path}
 use Rattle.step.specs.declared.Plan.{Plan}
 use Rattle.step.specs.declared.Plan.the-variants.{Idle, Refused, Grant, Leave, Cycle}
-use Rattle.act.specs.declared.Turned.{Turned}
-use Rattle.step.specs.declared.Advanced.{Advanced}
 use Rattle.step.specs.declared.Stepped.{Stepped}
 use Rattle.step.specs.declared.StepAnswer.{StepAnswer}
 use Rattle.step.specs.declared.StepAnswer.the-variants.{Done, Refused as NotDone}
-use Rattle.act.specs.Cycle.{pathOf, cycleBytes, cycleTurn}
+use Rattle.act.specs.Cycle.{pathOf, cycleBytes, Turned, cycleTurn}
 use Rattle.act.specs.Turn.{grantTurn, leaveTurn, idleTurn}
 use Rattle.step.specs.Plan.{planOf}
+
+-- the channel after a step of a sound channel, and its entry or why it was refused
+pub record Advanced : Type 0 where
+  pub channel : Channel
+  pub answer : StepAnswer
 
 abbrev pub doneBy : Turned → Advanced
 doneBy turned = record { channel = turned .channel; answer = Done (turned .entry) }

@@ -16,7 +16,7 @@ use refusal::Refusal;
 use refusal::Verdict;
 use tally::Tally;
 ghost use mathlib.Core.Path.{_≡_};
-ghost use mathlib.Core.Bool.{false, cond};
+ghost use mathlib.Core.Bool.{false};
 ghost use Prim.Native.Nat.{_+_, _≤_, _<_};
 ghost use lib.ListN.{length};
 ghost use Rattle.channel.specs.Channel.{Shaped};
@@ -40,12 +40,6 @@ pub enum Plan {
 pub enum StepAnswer {
     Done(Entry),
     Refused(Refusal),
-}
-
-// The channel after a step of a sound channel, and its entry or why it was refused. The definitions speak of it.
-pub struct Advanced {
-    pub channel: Channel,
-    pub answer: StepAnswer,
 }
 
 // What a step changes beside the channel's arrays and the stores.
@@ -166,15 +160,6 @@ fn settle(left: &[u32; 16], inactive: &mut [bool; 16], phase: Phase) -> bool
     channel::line_active(left, inactive, phase)
 }
 
-fn asked_if(active: bool, clock: u32) -> Asked
-    ensures { λ r. ⌜ r ≡ cond active (Asked.At clock) Asked.Never ⌝ }
-{
-    if active {
-        return Asked::At(clock);
-    }
-    Asked::Never
-}
-
 // Arbitration: the winner is the owner, with no asked time until the line rule sets one.
 fn grant(standing: Standing, left: &[u32; 16], inactive: &mut [bool; 16]) -> Acted
     ensures { λ r. ⌜ r ≡ grantActed standing (now (left .entry)) (now (inactive .entry)) ⌝ }
@@ -187,7 +172,7 @@ fn grant(standing: Standing, left: &[u32; 16], inactive: &mut [bool; 16]) -> Act
     let winner = channel::winner_of(left, inactive);
     let active = settle(left, inactive, Phase::Granted(winner));
     let clock = standing.clock + time;
-    let asked = asked_if(active, clock);
+    let asked = channel::asked_if(active, clock);
     let tally = tally::add_grant(standing.tally);
     Acted {
         phase: Phase::Granted(winner),

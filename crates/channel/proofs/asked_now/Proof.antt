@@ -14,6 +14,9 @@ enum-known-asked c = search needs
 enum-told-3 : tie.Need-enum-told-3
 enum-told-3 c = search needs
 
+asked-if-requires : tie.Need-asked-if-requires
+asked-if-requires c κs = search needs
+
 returns : tie.Need-returns
 returns c = search needs
 
@@ -21,10 +24,7 @@ returns-2 : tie.Need-returns-2
 returns-2 c = rw (c .before .before .before .enum-told2 .given .1, c .before .asked .given .1)
 
 returns-3 : tie.Need-returns-3
-returns-3 c = rw (c .before .before .before .enum-told2 .given .1, c .before .enum-told3 .given .1, c .if1 .taken)
-
-returns-4 : tie.Need-returns-4
-returns-4 c = search needs
+returns-3 c = rw (c .before .before .before .enum-told2 .given .1, c .before .enum-told3 .given .1) (c .asked-if .ensures)
 
 pub asked-now-spec : {M : Type 1} → statement M
 asked-now-spec =
@@ -34,7 +34,7 @@ asked-now-spec =
     enum-told-2
     enum-known-asked
     enum-told-3
+    asked-if-requires
     returns
     returns-2
-    returns-3
-    returns-4)
+    returns-3)

@@ -128,27 +128,27 @@ loop-again c =
           (c .before .before .before .before .turn .ensures)),
     )
 
-verdict-of-requires : tie.Need-verdict-of-requires Inv-loop μ-loop
-verdict-of-requires c κs = tt
+ran-by-requires : tie.Need-ran-by-requires Inv-loop μ-loop
+ran-by-requires c κs = tt
 
 same-length : tie.Need-same-length Inv-loop μ-loop
-same-length c = c .before .before .before .before .before .loop .inv .0
+same-length c = c .before .before .before .before .loop .inv .0
 
 same-length-2 : tie.Need-same-length-2 Inv-loop μ-loop
-same-length-2 c = c .before .before .before .before .before .loop .inv .1
+same-length-2 c = c .before .before .before .before .loop .inv .1
 
 returns : tie.Need-returns Inv-loop μ-loop
 returns c =
     let five = c .before .before .before .before .before in
     let ten = five .before .before .before .before .before in
-    let fifteen = ten .before .before .before .before .before in
-    let first = start-going (fifteen .args .setup) (fifteen .args .budget) (ten .before .before .routes-of .result) (fifteen .args .channel)
-    (fifteen .args .tally) (fifteen .args .slave .now) (fifteen .args .master .now) (fifteen .pre .0) (five .loop .inv .2)
-    (ten .before .before .routes-of .ensures) in
-    let l = five .loop in
-    let going = l .inv .3 (fifteen .args .setup) first in
-    let e = sym (finished _ _ _ (c .before .before .if1 .left) (going .least)) ∙ going .same ∙ first-come _ _ _ refl refl in
-    (rw (c .verdict-of .ensures) (ap (λ (x : Out). x .result) e), (ap (λ (x : Out). x .slave) e, ap (λ (x : Out). x .master) e))
+    let s = ten .before .before .before .before in
+    let l = c .before .before .before .before .loop in
+    let first = start-going (s .args .setup) (s .args .budget) (ten .before .routes-of .result) (s .args .channel)
+    (s .args .tally) (s .args .slave .now) (s .args .master .now) (s .pre .0) (l .inv .2)
+    (ten .before .routes-of .ensures) in
+    let going = l .inv .3 (s .args .setup) first in
+    let e = sym (finished _ _ _ (c .before .if1 .left) (going .least)) ∙ going .same ∙ first-come _ _ _ refl refl in
+    (c .ran-by .ensures ∙ ap (λ (x : Out). x .result) e, (ap (λ (x : Out). x .slave) e, ap (λ (x : Out). x .master) e))
 
 pub run-steps-spec : {M : Type 1} → statement M
 run-steps-spec =
@@ -164,7 +164,7 @@ run-steps-spec =
     turn-requires
     loop-less
     loop-again
-    verdict-of-requires
+    ran-by-requires
     same-length
     same-length-2
     returns)

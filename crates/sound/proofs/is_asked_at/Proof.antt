@@ -2,9 +2,6 @@ use mathlib.Core.Path.{_≡_, refl, sym, ap, ap₂, _∙_}
 use borrow.Author.Needs.{needs}
 use Rattle.sound.proofs.is_asked_at.Statement.{statement}
 use Rattle.sound.proofs.is_asked_at.Tie as tie
-use Rattle.sound.proofs.is_asked_at.Reads as reads
-use Rattle.sound.proofs.is_asked_at.Lts as lts
-use Rattle.sound.proofs.is_in_time.Reads as is-in-time-reads
 
 is-in-time-requires : tie.Need-is-in-time-requires
 is-in-time-requires c κs = search needs

@@ -3,9 +3,6 @@ use mathlib.Core.Path.{_≡_, refl, sym, ap, ap₂, _∙_}
 use borrow.Author.Needs.{needs}
 use Rattle.sound.proofs.is_asked_sound.Statement.{statement}
 use Rattle.sound.proofs.is_asked_sound.Tie as tie
-use Rattle.sound.proofs.is_asked_sound.Reads as reads
-use Rattle.sound.proofs.is_asked_sound.Lts as lts
-use Rattle.sound.proofs.is_asked_at.Reads as is-asked-at-reads
 
 enum-told : tie.Need-enum-told
 enum-told c = search needs

@@ -6,17 +6,6 @@ use mathlib.Core.Path.{_≡_, refl, sym, ap, ap₂, _∙_}
 use borrow.Author.Needs.{needs}
 use Rattle.sound.proofs.is_sound.Statement.{statement}
 use Rattle.sound.proofs.is_sound.Tie as tie
-use Rattle.sound.proofs.is_sound.Reads as reads
-use Rattle.sound.proofs.is_sound.Lts as lts
-use Rattle.channel.proofs.line_active.Reads as line-active-reads
-use Rattle.channel.proofs.place_of.Reads as place-of-reads
-use Rattle.sound.proofs.are_blank.Reads as are-blank-reads
-use Rattle.sound.proofs.are_marks_sound.Reads as are-marks-sound-reads
-use Rattle.sound.proofs.are_open_sound.Reads as are-open-sound-reads
-use Rattle.sound.proofs.is_asked_sound.Reads as is-asked-sound-reads
-use Rattle.sound.proofs.is_owner_sound.Reads as is-owner-sound-reads
-use Rattle.sound.proofs.members_of.Reads as members-of-reads
-use Rattle.sound.proofs.request_at.Reads as request-at-reads
 
 members-of-requires : tie.Need-members-of-requires
 members-of-requires c κs = search needs

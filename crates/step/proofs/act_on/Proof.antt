@@ -4,12 +4,6 @@ use mathlib.Core.Path.{_≡_, refl, sym, ap, _∙_}
 use borrow.Author.Needs.{needs}
 use Rattle.step.proofs.act_on.Statement.{statement}
 use Rattle.step.proofs.act_on.Tie as tie
-use Rattle.step.proofs.act_on.Reads as reads
-use Rattle.step.proofs.act_on.Lts as lts
-use Rattle.act.proofs.path_of.Reads as path-of-reads
-use Rattle.step.proofs.cycle_on.Reads as cycle-on-reads
-use Rattle.step.proofs.grant.Reads as grant-reads
-use Rattle.step.proofs.rest.Reads as rest-reads
 
 enum-told : tie.Need-enum-told
 enum-told c = search needs

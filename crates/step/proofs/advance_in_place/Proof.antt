@@ -3,10 +3,6 @@ use mathlib.Core.Path.{_≡_, refl, sym, ap, _∙_}
 use borrow.Author.Needs.{needs}
 use Rattle.step.proofs.advance_in_place.Statement.{statement}
 use Rattle.step.proofs.advance_in_place.Tie as tie
-use Rattle.step.proofs.advance_in_place.Reads as reads
-use Rattle.step.proofs.advance_in_place.Lts as lts
-use Rattle.step.proofs.act_on.Reads as act-on-reads
-use Rattle.step.proofs.stepped_by.Reads as stepped-by-reads
 
 act-on-requires : tie.Need-act-on-requires
 act-on-requires c κs = search needs

@@ -2,10 +2,6 @@ use mathlib.Core.Path.{_≡_, refl, sym, ap, _∙_}
 use borrow.Author.Needs.{needs}
 use Rattle.step.proofs.bytes_of.Statement.{statement}
 use Rattle.step.proofs.bytes_of.Tie as tie
-use Rattle.step.proofs.bytes_of.Reads as reads
-use Rattle.step.proofs.bytes_of.Lts as lts
-use Rattle.cycle.proofs.cycle_length.Reads as cycle-length-reads
-use Rattle.cycle.proofs.narrow.Reads as narrow-reads
 
 narrow-requires : tie.Need-narrow-requires
 narrow-requires c κs = search needs

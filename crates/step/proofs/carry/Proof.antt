@@ -6,9 +6,6 @@ use mathlib.Core.Path.{_≡_, refl, sym, ap, _∙_}
 use borrow.Author.Needs.{needs}
 use Rattle.step.proofs.carry.Statement.{statement}
 use Rattle.step.proofs.carry.Tie as tie
-use Rattle.step.proofs.carry.Reads as reads
-use Rattle.step.proofs.carry.Lts as lts
-use Rattle.basics.proofs.move_bytes.Reads as move-bytes-reads
 
 sub-place : tie.Need-sub-place
 sub-place c = search needs

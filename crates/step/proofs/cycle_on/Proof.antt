@@ -5,16 +5,6 @@ use mathlib.Core.Path.{_≡_, refl, sym, ap, _∙_}
 use borrow.Author.Needs.{needs}
 use Rattle.step.proofs.cycle_on.Statement.{statement}
 use Rattle.step.proofs.cycle_on.Tie as tie
-use Rattle.step.proofs.cycle_on.Reads as reads
-use Rattle.step.proofs.cycle_on.Lts as lts
-use Rattle.act.proofs.ending_of.Reads as ending-of-reads
-use Rattle.act.proofs.is_marked.Reads as is-marked-reads
-use Rattle.act.proofs.slot_after.Reads as slot-after-reads
-use Rattle.step.proofs.bytes_of.Reads as bytes-of-reads
-use Rattle.step.proofs.carry.Reads as carry-reads
-use Rattle.step.proofs.cycled.Reads as cycled-reads
-use Rattle.step.proofs.full.Reads as full-reads
-use Rattle.step.proofs.rest_after.Reads as rest-after-reads
 
 cast-if1 : tie.Need-cast-if1
 cast-if1 c = search needs

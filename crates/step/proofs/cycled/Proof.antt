@@ -3,12 +3,6 @@ use mathlib.Core.Path.{_≡_, refl, sym, ap, _∙_}
 use borrow.Author.Needs.{needs}
 use Rattle.step.proofs.cycled.Statement.{statement}
 use Rattle.step.proofs.cycled.Tie as tie
-use Rattle.step.proofs.cycled.Reads as reads
-use Rattle.step.proofs.cycled.Lts as lts
-use Rattle.act.proofs.is_kept.Reads as is-kept-reads
-use Rattle.cycle.proofs.master_lane.Reads as master-lane-reads
-use Rattle.cycle.proofs.slave_lane.Reads as slave-lane-reads
-use Rattle.tally.proofs.add_cycle.Reads as add-cycle-reads
 
 add-clock : tie.Need-add-clock
 add-clock c = search needs

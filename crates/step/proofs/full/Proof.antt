@@ -2,8 +2,6 @@ use Rattle.step.specs.Acts.{fullActed}
 use mathlib.Core.Path.{_≡_, refl, sym, ap, _∙_}
 use Rattle.step.proofs.full.Statement.{statement}
 use Rattle.step.proofs.full.Tie as tie
-use Rattle.step.proofs.full.Reads as reads
-use Rattle.step.proofs.full.Lts as lts
 
 returns : tie.Need-returns
 unfolding fullActed

@@ -5,14 +5,6 @@ use mathlib.Core.Path.{_≡_, refl, sym, ap, _∙_}
 use borrow.Author.Needs.{needs}
 use Rattle.step.proofs.grant.Statement.{statement}
 use Rattle.step.proofs.grant.Tie as tie
-use Rattle.step.proofs.grant.Reads as reads
-use Rattle.step.proofs.grant.Lts as lts
-use Rattle.act.proofs.arbitration_time.Reads as arbitration-time-reads
-use Rattle.channel.proofs.winner_of.Reads as winner-of-reads
-use Rattle.step.proofs.asked_if.Reads as asked-if-reads
-use Rattle.step.proofs.full.Reads as full-reads
-use Rattle.step.proofs.settle.Reads as settle-reads
-use Rattle.tally.proofs.add_grant.Reads as add-grant-reads
 
 arbitration-time-requires : tie.Need-arbitration-time-requires
 arbitration-time-requires c κs = search needs

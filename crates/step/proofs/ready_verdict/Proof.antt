@@ -4,10 +4,6 @@ use mathlib.Core.Path.{_≡_, refl, sym, ap, _∙_}
 use borrow.Author.Needs.{needs}
 use Rattle.step.proofs.ready_verdict.Statement.{statement}
 use Rattle.step.proofs.ready_verdict.Tie as tie
-use Rattle.step.proofs.ready_verdict.Reads as reads
-use Rattle.step.proofs.ready_verdict.Lts as lts
-use Rattle.frame.proofs.framed_store.Reads as framed-store-reads
-use Rattle.sound.proofs.is_sound.Reads as is-sound-reads
 
 framed-store-requires : tie.Need-framed-store-requires
 framed-store-requires c κs = search needs

@@ -3,10 +3,6 @@ use mathlib.Core.Path.{_≡_, refl, sym, ap, _∙_}
 use borrow.Author.Needs.{needs}
 use Rattle.step.proofs.rest.Statement.{statement}
 use Rattle.step.proofs.rest.Tie as tie
-use Rattle.step.proofs.rest.Reads as reads
-use Rattle.step.proofs.rest.Lts as lts
-use Rattle.basics.proofs.less.Reads as less-reads
-use Rattle.tally.proofs.add_release.Reads as add-release-reads
 
 enum-told : tie.Need-enum-told
 enum-told c = search needs

@@ -3,8 +3,6 @@ use mathlib.Core.Path.{_≡_, refl, sym, ap, _∙_}
 use borrow.Author.Needs.{needs}
 use Rattle.step.proofs.rest_after.Statement.{statement}
 use Rattle.step.proofs.rest_after.Tie as tie
-use Rattle.step.proofs.rest_after.Reads as reads
-use Rattle.step.proofs.rest_after.Lts as lts
 
 add-t4 : tie.Need-add-t4
 add-t4 c = search needs

@@ -3,9 +3,6 @@ use mathlib.Core.Path.{_≡_, refl, sym, ap, _∙_}
 use borrow.Author.Needs.{needs}
 use Rattle.step.proofs.settle.Statement.{statement}
 use Rattle.step.proofs.settle.Tie as tie
-use Rattle.step.proofs.settle.Reads as reads
-use Rattle.step.proofs.settle.Lts as lts
-use Rattle.channel.proofs.line_active.Reads as line-active-reads
 
 line-active-requires : tie.Need-line-active-requires
 line-active-requires c κs = search needs

@@ -1,9 +1,7 @@
 use mathlib.Core.Path.{_≡_, refl, sym, ap, _∙_}
 use borrow.Author.Needs.{needs}
-use Rattle.step.proofs.asked_if.Statement.{statement}
-use Rattle.step.proofs.asked_if.Tie as tie
-use Rattle.step.proofs.asked_if.Reads as reads
-use Rattle.step.proofs.asked_if.Lts as lts
+use Rattle.channel.proofs.asked_if.Statement.{statement}
+use Rattle.channel.proofs.asked_if.Tie as tie
 
 returns : tie.Need-returns
 returns c = rw (c .if1 .taken)
