@@ -454,11 +454,14 @@ fn run_cycles(
     requires { ⌜ state .phase ≡ Phase.Granted at ⌝ }
     requires { ⌜ isInactive (now inactive) at ≡ false ⌝ }
     requires { ⌜ Routed route ⌝ }
-    requires { ⌜ Roomy (route .path) (requestAt (now direction) (now space) (now address) (now left) (now offset) at) (length (now slave)) (length (now master)) ⌝ }
+    requires { ⌜ Roomy (route .path) (requestAt (now direction) (now space) (now address) (now left) (now offset) at) (length (now slave))
+        (length (now master)) ⌝ }
     requires { ⌜ state .clock ≤ 4000000000 ⌝ }
     requires { ⌜ budget ≤ 65535 ⌝ }
-    ensures { λ r. ⌜ runningOf r (now (inactive .exit)) (now (direction .exit)) (now (space .exit)) (now (address .exit)) (now (left .exit)) (now (offset .exit)) (now (slave .exit)) (now (master .exit))
-        ≡ cyclesRun (route .path) budget at (runningOf state (now (inactive .entry)) (now (direction .entry)) (now (space .entry)) (now (address .entry)) (now (left .entry)) (now (offset .entry)) (now (slave .entry)) (now (master .entry))) ⌝ }
+    ensures { λ r. ⌜ runningOf r (now (inactive .exit)) (now (direction .exit)) (now (space .exit)) (now (address .exit)) (now (left .exit))
+        (now (offset .exit)) (now (slave .exit)) (now (master .exit))
+        ≡ cyclesRun (route .path) budget at (runningOf state (now (inactive .entry)) (now (direction .entry)) (now (space .entry))
+        (now (address .entry)) (now (left .entry)) (now (offset .entry)) (now (slave .entry)) (now (master .entry))) ⌝ }
 {
     let tally = state.tally;
     let asked = state.asked;
@@ -503,9 +506,12 @@ fn turn(
     master: &mut [u8],
     budget: u32,
 ) -> State
-    requires { ⌜ Turnable route budget (runningOf state (now inactive) (now direction) (now space) (now address) (now left) (now offset) (now slave) (now master)) ⌝ }
-    ensures { λ r. ⌜ runningOf r (now (inactive .exit)) (now (direction .exit)) (now (space .exit)) (now (address .exit)) (now (left .exit)) (now (offset .exit)) (now (slave .exit)) (now (master .exit))
-        ≡ turnOf (route .path) budget (runningOf state (now (inactive .entry)) (now (direction .entry)) (now (space .entry)) (now (address .entry)) (now (left .entry)) (now (offset .entry)) (now (slave .entry)) (now (master .entry))) ⌝ }
+    requires { ⌜ Turnable route budget (runningOf state (now inactive) (now direction) (now space) (now address) (now left) (now offset) (now slave)
+        (now master)) ⌝ }
+    ensures { λ r. ⌜ runningOf r (now (inactive .exit)) (now (direction .exit)) (now (space .exit)) (now (address .exit)) (now (left .exit))
+        (now (offset .exit)) (now (slave .exit)) (now (master .exit))
+        ≡ turnOf (route .path) budget (runningOf state (now (inactive .entry)) (now (direction .entry)) (now (space .entry)) (now (address .entry))
+        (now (left .entry)) (now (offset .entry)) (now (slave .entry)) (now (master .entry))) ⌝ }
 {
     let phase = state.phase;
     match phase {
@@ -689,7 +695,8 @@ fn run_ready(
     requires { ⌜ Ready setup channel (length (now slave)) (length (now master)) ⌝ }
     ensures { λ r. ⌜ r ≡ runBy setup Verdict.Accepted budget (world channel tally (now (slave .entry)) (now (master .entry))) .result ⌝ }
     ensures { λ r. ⌜ now (slave .exit) ≡ runBy setup Verdict.Accepted budget (world channel tally (now (slave .entry)) (now (master .entry))) .slave ⌝ }
-    ensures { λ r. ⌜ now (master .exit) ≡ runBy setup Verdict.Accepted budget (world channel tally (now (slave .entry)) (now (master .entry))) .master ⌝ }
+    ensures { λ r. ⌜ now (master .exit) ≡ runBy setup Verdict.Accepted budget (world channel tally (now (slave .entry))
+        (now (master .entry))) .master ⌝ }
 {
     if 65535 < budget {
         return Ran {

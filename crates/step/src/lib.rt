@@ -317,8 +317,10 @@ fn cycle_on(
     requires { ⌜ request ≡ requestAt (now direction) (now space) (now address) (now left) (now offset) owner ⌝ }
     requires { ⌜ isInactive (now inactive) owner ≡ false ⌝ }
     requires { ⌜ Roomy path request (length (now slave)) (length (now master)) ⌝ }
-    ensures { λ r. ⌜ madeOf r (now (inactive .exit)) (now (direction .exit)) (now (space .exit)) (now (address .exit)) (now (left .exit)) (now (offset .exit)) (now (slave .exit)) (now (master .exit))
-        ≡ cycleMade path owner (channelOf standing (now (inactive .entry)) (now (direction .entry)) (now (space .entry)) (now (address .entry)) (now (left .entry)) (now (offset .entry))) (standing .tally) (now (slave .entry)) (now (master .entry)) ⌝ }
+    ensures { λ r. ⌜ madeOf r (now (inactive .exit)) (now (direction .exit)) (now (space .exit)) (now (address .exit)) (now (left .exit))
+        (now (offset .exit)) (now (slave .exit)) (now (master .exit))
+        ≡ cycleMade path owner (channelOf standing (now (inactive .entry)) (now (direction .entry)) (now (space .entry)) (now (address .entry))
+        (now (left .entry)) (now (offset .entry))) (standing .tally) (now (slave .entry)) (now (master .entry)) ⌝ }
 {
     if 4000000000 < standing.clock as u64 + path.time as u64 {
         return full(standing);
@@ -352,10 +354,13 @@ fn act_on(
     slave: &mut [u8],
     master: &mut [u8],
 ) -> Acted
-    requires { ⌜ Ready setup (channelOf standing (now inactive) (now direction) (now space) (now address) (now left) (now offset)) (length (now slave)) (length (now master)) ⌝ }
+    requires { ⌜ Ready setup (channelOf standing (now inactive) (now direction) (now space) (now address) (now left) (now offset))
+        (length (now slave)) (length (now master)) ⌝ }
     requires { ⌜ Shaped (channelOf standing (now inactive) (now direction) (now space) (now address) (now left) (now offset)) ⌝ }
-    ensures { λ r. ⌜ madeOf r (now (inactive .exit)) (now (direction .exit)) (now (space .exit)) (now (address .exit)) (now (left .exit)) (now (offset .exit)) (now (slave .exit)) (now (master .exit))
-        ≡ stepMade setup (channelOf standing (now (inactive .entry)) (now (direction .entry)) (now (space .entry)) (now (address .entry)) (now (left .entry)) (now (offset .entry))) (standing .tally) (now (slave .entry)) (now (master .entry)) ⌝ }
+    ensures { λ r. ⌜ madeOf r (now (inactive .exit)) (now (direction .exit)) (now (space .exit)) (now (address .exit)) (now (left .exit))
+        (now (offset .exit)) (now (slave .exit)) (now (master .exit))
+        ≡ stepMade setup (channelOf standing (now (inactive .entry)) (now (direction .entry)) (now (space .entry)) (now (address .entry))
+        (now (left .entry)) (now (offset .entry))) (standing .tally) (now (slave .entry)) (now (master .entry)) ⌝ }
 {
     let phase = standing.phase;
     match phase {

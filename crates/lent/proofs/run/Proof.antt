@@ -263,7 +263,8 @@ module _ {M : Type 1} (𝓤 : URA M) (H : Heap 𝓤) (A : Atoms 𝓤) (W : Given
     Own₂ = MutSlice (named 2) κ₂ u8 .own x₂ (s₂ ∷ [])
 
     -- the tokens of the two stores, the stores, and the tally's value are what the callee asks
-    goes : ent 𝓤 (⋆ 𝓤 H A (‵ (Tallyᵐ.the-row .own h (tally-val ∷ [])) ∷ ‵ Own₁ ∷ ‵ Own₂ ∷ ‵ (flft κ₁ q₁) ∷ ‵ (flft κ₂ q₂) ∷ []))
+    goes : ent 𝓤 (⋆ 𝓤 H A (‵ (Tallyᵐ.the-row .own h (tally-val ∷ [])) ∷ ‵ Own₁ ∷ ‵ Own₂ ∷ ‵ (flft κ₁ q₁) ∷ ‵
+        (flft κ₂ q₂) ∷ []))
         (Callee 𝓤 H A at-mem run .pre to)
     goes =
         qed W (‵ (Tallyᵐ.the-row .own h (tally-val ∷ [])) ∷ ‵ Own₁ ∷ ‵ Own₂ ∷ ‵ (flft κ₁ q₁) ∷ ‵ (flft κ₂ q₂) ∷ []) ∵
@@ -279,7 +280,8 @@ module _ {M : Type 1} (𝓤 : URA M) (H : Heap 𝓤) (A : Atoms 𝓤) (W : Given
       walk : Room u8 (length xs) → Room u8 (length ys) → ent 𝓤 (onEntry 𝓤 H A f.signature (κ, (κ₁, (κ₂, tt))) (q, (q₁, (q₂, tt))) a at)
           (WpFn 𝓤 H C Λ code.function (setup-val ∷ channel-val ∷ vptr b o ∷ s₁ ∷ s₂ ∷ vint w32 budget ∷ []) Post)
       walk room₁ room₂ =
-          qed W ((‵ (flft κ q) ⊛ (‵ (flft κ₁ q₁) ⊛ (‵ (flft κ₂ q₂) ⊛ ‵ ftrue))) ∷ ‵ (owns (Setupᵐ.the-row ∷ Channelᵐ.the-row ∷ MutRef
+          qed W ((‵ (flft κ q) ⊛ (‵ (flft κ₁ q₁) ⊛ (‵ (flft κ₂ q₂) ⊛ ‵ ftrue))) ∷ ‵ (owns
+          (Setupᵐ.the-row ∷ Channelᵐ.the-row ∷ MutRef
           (named 0) κ Tallyᵐ.the-row ∷ MutSlice (named 1) κ₁ u8 ∷ MutSlice (named 2) κ₂ u8 ∷ u32 ∷ []) a at) ∷ []) ∵
           split ! $ move ! (1 ∷ []) $ split ! $ move ! (1 ∷ []) $ split ! $ move ! (4 ∷ []) $
           fsplit ! $ drop ! $ fsplit ! $ drop ! $ fsplit ! $ move ! (1 ∷ []) $ fsplit ! $ move ! (1 ∷ []) $ fsplit ! $ move ! (1 ∷ []) $
@@ -330,7 +332,8 @@ module _ {M : Type 1} (𝓤 : URA M) (H : Heap 𝓤) (A : Atoms 𝓤) (W : Given
               ),
             ),
           )) $
-          move ! (1 ∷ 32 ∷ 31 ∷ 35 ∷ 33 ∷ []) $ move ! (3 ∷ 4 ∷ []) $ join ! $ move ! (3 ∷ 0 ∷ []) $ join ! $ move ! (2 ∷ 0 ∷ []) $ join ! $
+          move ! (1 ∷ 32 ∷ 31 ∷ 35 ∷ 33 ∷ []) $ move ! (3 ∷ 4 ∷ []) $ join ! $ move ! (3 ∷ 0 ∷ []) $ join ! $ move !
+          (2 ∷ 0 ∷ []) $ join ! $
           move ! (1 ∷ 0 ∷ []) $ join ! $
           use1 W (raw (Callee 𝓤 H A at-mem run .pre to)) goes $
           -- [what the call asks; the cell; the open borrow; obs; auth; the locals; true]
@@ -338,7 +341,8 @@ module _ {M : Type 1} (𝓤 : URA M) (H : Heap 𝓤) (A : Atoms 𝓤) (W : Given
           (stop !)) (look ! 25 refl)) (and-then ! (load ! (from ! (stop !)) (look ! 13 refl)) (and-then ! (load ! (from ! (stop !))
           (look ! 9 refl)) (and-then ! (load ! (from ! (stop !)) (look ! 5 refl)) (and-then ! (load ! (from ! (stop !)) (look ! 17 refl))
           (no-more !))))))) (λ v.
-          use1 W (later (some (λ (r : Ran). ((‵ (flft κ₁ q₁) ⊛ (‵ (flft κ₂ q₂) ⊛ ‵ ftrue)) ⊛ ‵ (Ranᵐ.the-row .own r (v ∷ []))) ⊛ raw
+          use1 W (later (some (λ (r : Ran). ((‵ (flft κ₁ q₁) ⊛ (‵ (flft κ₂ q₂) ⊛ ‵ ftrue)) ⊛ ‵
+          (Ranᵐ.the-row .own r (v ∷ []))) ⊛ raw
           (ensured 𝓤 H A callee.ended (callee.clauses 𝓤 H A at-mem run) (κ₁, (κ₂, tt)) args tt r)))) (id⊢ 𝓤 _) $ await ! tt $ pick ! (λ r.
           split ! $ move ! (1 ∷ []) $ use1 W (some (λ (ws : Unit {0} × (Unit {0} × (Unit {0} × (List ℕ × (List ℕ ×
           (Unit {0} × Unit {0})))))). ‵ (lasts callee.ended (κ₁, (κ₂, tt)) args ws) ⊛ raw (sep 𝓤 (fact 𝓤 (r ≡ d)) (sep 𝓤 (fact 𝓤
@@ -417,8 +421,10 @@ module _ {M : Type 1} (𝓤 : URA M) (H : Heap 𝓤) (A : Atoms 𝓤) (W : Given
       (are .1 .1 .1 .1 .1 .0 .1)
       (are .0) (are .1 .0) C Λ fm known known-taker (are .1 .1 .1 .0 .0 .1) (are .1 .1 .1 .1 .0 .0 .1)))
 
-meets : {M : Type 1} (𝓤 : URA M) (H : Heap 𝓤) (A : Atoms 𝓤) (W : Given 𝓤 H A) (mem : Memory → SProp 𝓤) (run : Routine → Fun 𝓤) (𝓣 : Tables 𝓤 H)
-    → Triple 𝓤 (𝓣 .C #callee) (Callee 𝓤 H A mem run) → Triple 𝓤 (𝓣 .C #taker) (Taker 𝓤 H A mem run) → Meets 𝓤 H A f.signature (WpFn 𝓤 H (𝓣 .C)
+meets : {M : Type 1} (𝓤 : URA M) (H : Heap 𝓤) (A : Atoms 𝓤) (W : Given 𝓤 H A) (mem : Memory → SProp 𝓤)
+    (run : Routine → Fun 𝓤) (𝓣 : Tables 𝓤 H)
+    → Triple 𝓤 (𝓣 .C #callee) (Callee 𝓤 H A mem run) → Triple 𝓤 (𝓣 .C #taker) (Taker 𝓤 H A mem run) → Meets 𝓤 H A
+    f.signature (WpFn 𝓤 H (𝓣 .C)
     (𝓣 .Λ) code.function) (f.spec 𝓤 H A mem run)
 meets 𝓤 H A W mem run 𝓣 known known-taker =
     walk-meets 𝓤 H A f.ended stayed W (
@@ -443,5 +449,7 @@ run-spec 𝓤 H 𝓜 𝓖 𝓡 =
     entered 𝓤 H (tripleOf 𝓤 H (𝓖 .A) f.signature (f.spec 𝓤 H (𝓖 .A) (𝓜 .mem) (𝓡 .run)))
     (tables 𝓤 H 𝓜 𝓡 code.env .C) (tables 𝓤 H 𝓜 𝓡 code.env .Λ) #f code.function (code.unfolded 𝓤 H 𝓜 𝓡)
     (meets 𝓤 H (𝓖 .A) (givenOf 𝓤 H 𝓜 𝓖) (𝓜 .mem) (𝓡 .run) (tablesOf 𝓤 H 𝓜 (tables 𝓤 H 𝓜 𝓡 code.env))
-    (cited 𝓤 H (Callee 𝓤 H (𝓖 .A) (𝓜 .mem) (𝓡 .run)) 𝓜 𝓡 code.env #callee callee-def.routine code.calls-run·run (callee-thm.met 𝓤 H 𝓜 𝓖 𝓡))
-    (cited 𝓤 H (Taker 𝓤 H (𝓖 .A) (𝓜 .mem) (𝓡 .run)) 𝓜 𝓡 code.env #taker taker-def.routine code.calls-lent·run-tally (taker-thm.met 𝓤 H 𝓜 𝓖 𝓡)))
+    (cited 𝓤 H (Callee 𝓤 H (𝓖 .A) (𝓜 .mem) (𝓡 .run)) 𝓜 𝓡 code.env #callee callee-def.routine code.calls-run·run
+    (callee-thm.met 𝓤 H 𝓜 𝓖 𝓡))
+    (cited 𝓤 H (Taker 𝓤 H (𝓖 .A) (𝓜 .mem) (𝓡 .run)) 𝓜 𝓡 code.env #taker taker-def.routine code.calls-lent·run-tally
+    (taker-thm.met 𝓤 H 𝓜 𝓖 𝓡)))

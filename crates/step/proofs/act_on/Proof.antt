@@ -25,7 +25,8 @@ element-copy-out-path-of c =
     let five = c .before .before .before .before .before in
     let a = five .args in
     let p = five .pre in
-    owner-small (a .standing) (a .inactive .now) (a .direction .now) (a .space .now) (a .address .now) (a .left .now) (a .offset .now) (a .setup) (a .slave .now) (a .master .now) (p .0) (p .1) _ (c .before .phase .given .1)
+    owner-small (a .standing) (a .inactive .now) (a .direction .now) (a .space .now) (a .address .now) (a .left .now) (a .offset .now) (a .setup)
+    (a .slave .now) (a .master .now) (p .0) (p .1) _ (c .before .phase .given .1)
 
 mul-t23 : tie.Need-mul-t23
 mul-t23 c = search needs
@@ -35,7 +36,8 @@ element-copy-out-t26 c =
     let five = c .before .before .before .before .before in
     let a = five .before .args in
     let p = five .before .pre in
-    owner-small (a .standing) (a .inactive .now) (a .direction .now) (a .space .now) (a .address .now) (a .left .now) (a .offset .now) (a .setup) (a .slave .now) (a .master .now) (p .0) (p .1) _ (c .before .before .phase .given .1)
+    owner-small (a .standing) (a .inactive .now) (a .direction .now) (a .space .now) (a .address .now) (a .left .now) (a .offset .now) (a .setup)
+    (a .slave .now) (a .master .now) (p .0) (p .1) _ (c .before .before .phase .given .1)
 
 mul-t27 : tie.Need-mul-t27
 mul-t27 c = search needs
@@ -45,7 +47,8 @@ element-copy-out-t30 c =
     let five = c .before .before .before .before .before in
     let a = five .before .before .args in
     let p = five .before .before .pre in
-    owner-small (a .standing) (a .inactive .now) (a .direction .now) (a .space .now) (a .address .now) (a .left .now) (a .offset .now) (a .setup) (a .slave .now) (a .master .now) (p .0) (p .1) _ (c .before .before .before .phase .given .1)
+    owner-small (a .standing) (a .inactive .now) (a .direction .now) (a .space .now) (a .address .now) (a .left .now) (a .offset .now) (a .setup)
+    (a .slave .now) (a .master .now) (p .0) (p .1) _ (c .before .before .before .phase .given .1)
 
 mul-t31 : tie.Need-mul-t31
 mul-t31 c = search needs
@@ -55,7 +58,8 @@ element-copy-out-t34 c =
     let five = c .before .before .before .before .before in
     let a = five .before .before .before .args in
     let p = five .before .before .before .pre in
-    owner-small (a .standing) (a .inactive .now) (a .direction .now) (a .space .now) (a .address .now) (a .left .now) (a .offset .now) (a .setup) (a .slave .now) (a .master .now) (p .0) (p .1) _ (c .before .before .before .before .phase .given .1)
+    owner-small (a .standing) (a .inactive .now) (a .direction .now) (a .space .now) (a .address .now) (a .left .now) (a .offset .now) (a .setup)
+    (a .slave .now) (a .master .now) (p .0) (p .1) _ (c .before .before .before .before .phase .given .1)
 
 mul-t35 : tie.Need-mul-t35
 mul-t35 c = search needs
@@ -65,7 +69,8 @@ element-copy-out-t38 c =
     let five = c .before .before .before .before .before in
     let a = five .before .before .before .before .args in
     let p = five .before .before .before .before .pre in
-    owner-small (a .standing) (a .inactive .now) (a .direction .now) (a .space .now) (a .address .now) (a .left .now) (a .offset .now) (a .setup) (a .slave .now) (a .master .now) (p .0) (p .1) _ (five .phase .given .1)
+    owner-small (a .standing) (a .inactive .now) (a .direction .now) (a .space .now) (a .address .now) (a .left .now) (a .offset .now) (a .setup)
+    (a .slave .now) (a .master .now) (p .0) (p .1) _ (five .phase .given .1)
 
 rest-requires : tie.Need-rest-requires
 rest-requires c κs = search needs
@@ -76,7 +81,8 @@ returns c =
     let ten = five .before .before .before .before .before in
     let a = ten .before .before .before .args in
     let p = ten .before .before .before .pre in
-    act-rest (a .standing) (a .inactive .now) (a .direction .now) (a .space .now) (a .address .now) (a .left .now) (a .offset .now) (a .setup) (a .slave .now) (a .master .now) (p .0) (p .1) _ _ (five .before .before .before .before .phase .given .1) (c .before .if1 .taken) (c .rest .ensures)
+    act-rest (a .standing) (a .inactive .now) (a .direction .now) (a .space .now) (a .address .now) (a .left .now) (a .offset .now) (a .setup)
+    (a .slave .now) (a .master .now) (p .0) (p .1) _ _ (five .before .before .before .before .phase .given .1) (c .before .if1 .taken) (c .rest .ensures)
 
 cast-path-of : tie.Need-cast-path-of
 cast-path-of c = search needs
@@ -94,12 +100,15 @@ cycle-on-requires c κs =
     let p = twenty .before .pre in
     let g = fifteen .before .before .phase .given .1 in
     let e = five .before .before .before .path-of .ensures in (
-      owner-small (a .standing) (a .inactive .now) (a .direction .now) (a .space .now) (a .address .now) (a .left .now) (a .offset .now) (a .setup) (a .slave .now) (a .master .now) (p .0) (p .1) _ g,
+      owner-small (a .standing) (a .inactive .now) (a .direction .now) (a .space .now) (a .address .now) (a .left .now) (a .offset .now) (a .setup)
+          (a .slave .now) (a .master .now) (p .0) (p .1) _ g,
       (
         refl,
         (
-          owner-active (a .standing) (a .inactive .now) (a .direction .now) (a .space .now) (a .address .now) (a .left .now) (a .offset .now) (a .setup) (a .slave .now) (a .master .now) (p .0) (p .1) _ g,
-          rw e (owner-roomy (a .standing) (a .inactive .now) (a .direction .now) (a .space .now) (a .address .now) (a .left .now) (a .offset .now) (a .setup) (a .slave .now) (a .master .now) (p .0) (p .1) _ g (five .before .before .before .before .if1 .left)),
+          owner-active (a .standing) (a .inactive .now) (a .direction .now) (a .space .now) (a .address .now) (a .left .now) (a .offset .now)
+              (a .setup) (a .slave .now) (a .master .now) (p .0) (p .1) _ g,
+          rw e (owner-roomy (a .standing) (a .inactive .now) (a .direction .now) (a .space .now) (a .address .now) (a .left .now) (a .offset .now)
+              (a .setup) (a .slave .now) (a .master .now) (p .0) (p .1) _ g (five .before .before .before .before .if1 .left)),
         ),
       ),
     )
@@ -109,7 +118,8 @@ returns-2 c =
     let five = c .before .before .before .before .before in
     let a = five .before .before .args in
     let p = five .before .before .pre in
-    act-grant (a .standing) (a .inactive .now) (a .direction .now) (a .space .now) (a .address .now) (a .left .now) (a .offset .now) (a .setup) (a .slave .now) (a .master .now) (p .0) (p .1) _ _ (c .before .before .before .enum-told .given .1) (c .grant .ensures .0) (c .grant .ensures .1)
+    act-grant (a .standing) (a .inactive .now) (a .direction .now) (a .space .now) (a .address .now) (a .left .now) (a .offset .now) (a .setup)
+    (a .slave .now) (a .master .now) (p .0) (p .1) _ _ (c .before .before .before .enum-told .given .1) (c .grant .ensures .0) (c .grant .ensures .1)
 
 same-length : tie.Need-same-length
 same-length c = search needs
@@ -126,7 +136,9 @@ returns-3 c =
     let twenty-five = twenty .before .before .before .before .before in
     let a = twenty-five .before .args in
     let p = twenty-five .before .pre in
-    act-cycle (a .standing) (a .inactive .now) (a .direction .now) (a .space .now) (a .address .now) (a .left .now) (a .offset .now) (a .setup) (a .slave .now) (a .master .now) (p .0) (p .1) _ _ _ (twenty .before .before .phase .given .1) (ten .before .before .before .before .if1 .left) (ten .before .before .before .path-of .ensures)
+    act-cycle (a .standing) (a .inactive .now) (a .direction .now) (a .space .now) (a .address .now) (a .left .now) (a .offset .now) (a .setup)
+    (a .slave .now) (a .master .now) (p .0) (p .1) _ _ _ (twenty .before .before .phase .given .1)
+    (ten .before .before .before .before .if1 .left) (ten .before .before .before .path-of .ensures)
     (c .before .before .before .before .cycle-on .ensures)
 
 pub act-on-spec : {M : Type 1} → statement M
