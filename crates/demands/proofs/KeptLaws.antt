@@ -26,8 +26,8 @@ use Rattle.act.specs.Cycle.{pathOf, cycleBytes}
 use Rattle.step.specs.declared.Plan.{Plan}
 use Rattle.step.specs.declared.Plan.the-variants as plan
 use Rattle.step.specs.Plan.{actPlan, planOf}
-use Rattle.step.specs.Step.{Ready, Able, advancedBy, stepOf, placeFor, movedSlave, movedMaster, slaveBy, masterBy, slaveAfter, masterAfter}
-use Rattle.step.proofs.PlanLaws.{able, moved-lengths, plan-ready}
+use Rattle.step.specs.Step.{Ready, advancedBy, stepOf, placeFor, movedSlave, movedMaster, slaveBy, masterBy, slaveAfter, masterAfter}
+use Rattle.step.proofs.PlanLaws.{planned-roomy, moved-lengths, plan-ready}
 use Rattle.step.proofs.KeepLaws.{step-sound, step-shaped}
 use Rattle.demands.specs.History.{Moment, Act, posts, steps, next, after, Start}
 
@@ -58,7 +58,7 @@ by-lengths setup ch (plan.Refused why) slave master r e = (refl, refl)
 by-lengths setup ch (plan.Grant w) slave master r e = (refl, refl)
 by-lengths setup ch (plan.Leave o) slave master r e = (refl, refl)
 by-lengths setup ch (plan.Cycle o) slave master r e =
-    moved-lengths (pathOf setup o (requestOf ch o)) ch (requestOf ch o) slave master (able setup ch o (length slave) (length master) r e)
+    moved-lengths (pathOf setup o (requestOf ch o)) (requestOf ch o) slave master (planned-roomy setup ch o (length slave) (length master) r e)
 
 -- a step
 step-kept : (setup : Setup) (m : Moment) → Start setup m → Start setup (next setup m steps)

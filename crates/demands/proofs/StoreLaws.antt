@@ -27,8 +27,8 @@ use Rattle.act.specs.Turn.{grantTurn, leaveTurn}
 use Rattle.step.specs.declared.Plan.{Plan}
 use Rattle.step.specs.declared.Plan.the-variants as plan
 use Rattle.step.specs.Plan.{actPlan, planOf}
-use Rattle.step.specs.Step.{Ready, Able, advancedBy, stepOf, placeFor, movedSlave, movedMaster, slaveBy, masterBy, slaveAfter, masterAfter}
-use Rattle.step.proofs.PlanLaws.{says, able, plan-ready}
+use Rattle.step.specs.Step.{Ready, Roomy, advancedBy, stepOf, placeFor, movedSlave, movedMaster, slaveBy, masterBy, slaveAfter, masterAfter}
+use Rattle.step.proofs.PlanLaws.{says, planned-roomy, plan-ready}
 use Rattle.demands.specs.History.{Moment, Act, posts, steps, noTally, next, after, Start}
 use Rattle.demands.specs.Bytes.{Byte, further, bytesFrom, firstByte, carried, answerAt}
 use Rattle.demands.specs.Stores.{
@@ -185,8 +185,8 @@ module _ (setup : Setup) (m : Moment) (s : Start setup m) (o : ℕ) (e : actPlan
   ready : Ready setup (m .channel) (length (m .slave)) (length (m .master))
   ready = record { framed = s .framed; sound = s .sound; slave = s .slave; master = s .master }
 
-  room : Able path (m .channel) q (length (m .slave)) (length (m .master))
-  room = able setup (m .channel) o (length (m .slave)) (length (m .master)) ready e
+  room : Roomy path q (length (m .slave)) (length (m .master))
+  room = planned-roomy setup (m .channel) o (length (m .slave)) (length (m .master)) ready e
 
   fits : Fits setup q
   fits =

@@ -38,7 +38,7 @@ use Rattle.step.specs.declared.Plan.{Plan}
 use Rattle.step.specs.declared.Plan.the-variants as plan
 use Rattle.step.specs.Plan.{timed as inTime, ownerPlan, requestPlan, phasePlan, actPlan}
 use Rattle.step.specs.Step.{Ready, advancedBy, slaveBy, masterBy, movedSlave, movedMaster}
-use Rattle.step.proofs.PlanLaws.{says, able, moved-lengths}
+use Rattle.step.proofs.PlanLaws.{says, planned-roomy, moved-lengths}
 use Rattle.step.proofs.KeepLaws.{restAt, same-slave, same-start, ended-shaped, clocked-shaped}
 use Rattle.step.proofs.QuietLaws.{cycle-quiet}
 use Rattle.run.specs.declared.Tenure.{Tenure}
@@ -220,8 +220,8 @@ module _ (setup : Setup) (budget : ℕ) (ch : Channel) (shaped : Shaped ch) (o :
 
     lengths : (length slave′ ≡ length slave) × (length master′ ≡ length master)
     lengths =
-        let n = moved-lengths (pathOf setup o (requestOf (movedTo ch o t) o)) (movedTo ch o t) (requestOf (movedTo ch o t) o) slave master
-        (able setup (movedTo ch o t) o (length slave) (length master) (g .ready) is-cycle) in
+        let n = moved-lengths (pathOf setup o (requestOf (movedTo ch o t) o)) (requestOf (movedTo ch o t) o) slave master
+        (planned-roomy setup (movedTo ch o t) o (length slave) (length master) (g .ready) is-cycle) in
         (sym (ap (λ (l : List ℕ). length l) slave-is) ∙ n .0, sym (ap (λ (l : List ℕ). length l) master-is) ∙ n .1)
 
     ready-after : Ready setup (heldChannel ch o later) (length slave′) (length master′)

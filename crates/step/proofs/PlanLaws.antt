@@ -35,7 +35,7 @@ use Rattle.step.specs.declared.Plan.{Plan}
 use Rattle.step.specs.declared.Plan.the-variants.{Idle, Refused, Grant, Leave, Cycle}
 use Rattle.step.specs.Plan.{timed, ownerPlan, phasePlan, actPlan, readyVerdict, planBy, planOf}
 use Rattle.step.specs.declared.StepAnswer.the-variants.{Refused as NotDone}
-use Rattle.step.specs.Step.{Ready, Able, Roomy, advancedBy, placeFor, movedSlave, movedMaster, slaveBy, masterBy}
+use Rattle.step.specs.Step.{Ready, Roomy, advancedBy, placeFor, movedSlave, movedMaster, slaveBy, masterBy}
 
 -- what is known where a plan was made
 abbrev Says : Setup → Channel → Phase → Plan → Type 0
@@ -93,14 +93,10 @@ roomy setup ch o slave master r phase some =
       master = omega (arith, f .master, r .master);
     }
 
--- and a cycle that is planned has room on the clock too
-pub able : (setup : Setup) (ch : Channel) (o slave master : ℕ) → Ready setup ch slave master → actPlan setup ch ≡ Cycle o
-    → Able (pathOf setup o (requestOf ch o)) ch (requestOf ch o) slave master
-unfolding pathOf
-able setup ch o slave master r e =
-    let p = says setup ch (Cycle o) e in
-    let q = roomy setup ch o slave master r (p .0) (p .1) in
-    record { clock = p .2; end = q .end; offset = q .offset; begins = q .begins; start = q .start; slave = q .slave; master = q .master }
+-- so it has where a cycle is planned
+pub planned-roomy : (setup : Setup) (ch : Channel) (o slave master : ℕ) → Ready setup ch slave master → actPlan setup ch ≡ Cycle o
+    → Roomy (pathOf setup o (requestOf ch o)) (requestOf ch o) slave master
+planned-roomy setup ch o slave master r e = let p = says setup ch (Cycle o) e in roomy setup ch o slave master r (p .0) (p .1)
 
 -- a call that is refused by neither 9 nor 8 is ready, and its plan is the act's
 not-ready : {r : Refusal} → NotReady r ≡ Accepted → ⊥
@@ -138,10 +134,10 @@ refused-still setup ch (Leave o) why slave master e = let z : _≡_ {A = ℕ} 0 
 refused-still setup ch (Cycle o) why slave master e = let z : _≡_ {A = ℕ} 0 1 = cc in absurd (omega arith)
 
 -- the lengths of the stores after a cycle
-pub moved-lengths : (path : Path) (ch : Channel) (q : Request) (slave master : List ℕ) → Able path ch q (length slave) (length master)
+pub moved-lengths : (path : Path) (q : Request) (slave master : List ℕ) → Roomy path q (length slave) (length master)
     → (length (movedSlave path q slave master) ≡ length slave) × (length (movedMaster path q slave master) ≡ length master)
 unfolding movedSlave movedMaster placeFor
-moved-lengths path ch q slave master a =
+moved-lengths path q slave master a =
     by-test (eqb (q .direction) 0)
     (λ t. rw t (refl, length-paste master (q .offset) _ (cycleBytes path q) (omega (arith, a .master)) (rw length-drop (omega (arith, a .slave)))))
     (λ f. rw f (length-paste slave (path .start + (q .address - path .base)) _ (cycleBytes path q) (omega (arith, a .slave)) (rw length-drop (omega (arith, a .master))), refl))

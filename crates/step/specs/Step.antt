@@ -12,7 +12,7 @@ use Rattle.frame.specs.declared.Setup.{Setup}
 use Rattle.channel.specs.declared.Channel.{Channel}
 use Rattle.channel.specs.declared.Request.{Request}
 use Rattle.channel.specs.Channel.{requestOf}
-use Rattle.sound.specs.Sound.{clockLimit, isSound}
+use Rattle.sound.specs.Sound.{isSound}
 use Rattle.tally.specs.declared.Tally.{Tally}
 use Rattle.tally.specs.Tally.{addEntry}
 use Rattle.act.specs.declared.Path.{Path}
@@ -91,16 +91,6 @@ pub record Ready (setup : Setup) (ch : Channel) (s m : ℕ) : Type 0 where
   pub sound : isSound setup ch ≡ true
   pub slave : s ≡ slaveStoreLength (setup .slaves)
   pub master : m ≡ setup .master
-
--- what one cycle relies on: room on the clock, in the address space and in both stores
-pub record Able (path : Path) (ch : Channel) (q : Request) (s m : ℕ) : Type 0 where
-  pub clock : ch .clock + path .time ≤ clockLimit
-  pub end : q .address + q .left ≤ 16777216
-  pub offset : q .offset + q .left ≤ 65536
-  pub begins : path .base ≤ q .address
-  pub start : path .start ≤ 65536
-  pub slave : path .start + (q .address - path .base) + q .left ≤ s
-  pub master : q .offset + q .left ≤ m
 
 -- what the cycles of a request rely on: room in the address space and in both stores for all that is left of it
 pub record Roomy (path : Path) (q : Request) (s m : ℕ) : Type 0 where
