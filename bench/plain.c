@@ -87,7 +87,9 @@ static void print_tally(const struct mc_tally *tally)
     print_number(tally->hold);
 }
 
-int main(int argc, char **argv)
+int plain_main(int argc, char **argv);
+
+int plain_main(int argc, char **argv)
 {
     uint8_t header[4];
     struct mc_setup setup;
