@@ -87,8 +87,6 @@ static void print_tally(const struct mc_tally *tally)
     print_number(tally->hold);
 }
 
-int plain_main(int argc, char **argv);
-
 int plain_main(int argc, char **argv)
 {
     uint8_t header[4];
