@@ -1,12 +1,12 @@
 -- Document 01, "The frame", its last part: requests, the phase, and the channel after set-up.
 use Prim.Native.Nat.{ℕ}
 use mathlib.Core.Path.{_≡_}
-use mathlib.Core.Bool.{Bool, true, false, cond, not}
-use mathlib.Core.List.{List}
+use mathlib.Core.Bool.{Bool, true, false, not}
+use mathlib.Core.List.{List, [], _∷_}
 use lib.ListN.{length, getD, set, replicate}
 use lib.Dec.{eqb}
-use Rattle.refusal.specs.declared.Refusal.the-variants.{Unsound}
-use Rattle.refusal.specs.declared.Verdict.the-variants.{Accepted, Refused}
+use Rattle.refusal.specs.Refusal.{refusedBy}
+use Rattle.refusal.specs.declared.Verdict.the-variants.{Accepted}
 use Rattle.frame.specs.declared.Setup.{Setup}
 use Rattle.frame.specs.Frame.{isFramed}
 use Rattle.channel.specs.declared.Phase.{Phase}
@@ -73,7 +73,7 @@ fresh =
 
 -- "9: set-up ..: the set-up breaks the frame"; "A refused set-up gives the fresh channel"
 unfoldable pub setUp : Setup → Judged
-setUp setup = record { channel = fresh; verdict = cond (isFramed setup) Accepted (Refused Unsound) }
+setUp setup = record { channel = fresh; verdict = refusedBy ((9, not (isFramed setup)) ∷ []) Accepted }
 
 -- every channel of the program: its arrays have a place for each level
 pub record Shaped (ch : Channel) : Type 0 where

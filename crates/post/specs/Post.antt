@@ -1,10 +1,9 @@
 -- Document 01, "The frame" and "Refusal numbers": the post.
 use Prim.Native.Nat.{ℕ}
-use mathlib.Core.Bool.{Bool, cond, not, _&&_}
-use Rattle.refusal.specs.Refusal.{isAccepted}
-use Rattle.refusal.specs.declared.Refusal.the-variants.{Unsound, LevelAbsent, RequestOpen}
+use mathlib.Core.Bool.{cond, not, _&&_}
+use mathlib.Core.List.{[], _∷_}
+use Rattle.refusal.specs.Refusal.{isAccepted, refusedBy}
 use Rattle.refusal.specs.declared.Verdict.{Verdict}
-use Rattle.refusal.specs.declared.Verdict.the-variants.{Refused}
 use Rattle.frame.specs.Frame.{isFramed}
 use Rattle.frame.specs.declared.Setup.{Setup}
 use Rattle.channel.specs.declared.Channel.{Channel}
@@ -22,17 +21,16 @@ abbrev pub requestIn : Order → Request
 requestIn p =
     record { direction = p .direction; space = p .space; address = p .address; left = p .length; offset = p .offset }
 
--- "Order: 9 first, .. then the rest by number." 9: the set-up breaks the frame or the channel is unsound; 1: the level isn't in the set-up; 2: that level
--- has an open request; 3, 4 and 5 are the request's own
+-- "Order: 9 first, .. then the rest by number." "9: .. the set-up breaks the frame .. the channel is unsound"; "1: .. the level isn't in the set-up";
+-- "2: .. that level has an open request"; 3, 4 and 5 are the request's own
 unfoldable pub postVerdict : Setup → Channel → Order → Verdict
 postVerdict setup ch p =
-    cond
-    (not (isFramed setup && isSound setup ch))
-    (Refused Unsound)
-    (cond
-    (not (isPresent (setup .levels) (p .level)))
-    (Refused LevelAbsent)
-    (cond (hasRequest (ch .left) (p .level)) (Refused RequestOpen) (requestVerdict setup (requestIn p))))
+    refusedBy
+    ((9, not (isFramed setup && isSound setup ch)) ∷
+    (1, not (isPresent (setup .levels) (p .level))) ∷
+    (2, hasRequest (ch .left) (p .level)) ∷
+    [])
+    (requestVerdict setup (requestIn p))
 
 -- an accepted post, then the line rule
 unfoldable pub posted : Channel → Order → Channel

@@ -6,7 +6,7 @@ use mathlib.Core.Bool.{Bool, true, false, cond, _||_}
 use mathlib.Core.List.{List, []}
 use lib.ListN.{length, getD, replicate}
 use lib.Dec.{eqb, ltb}
-use Rattle.refusal.specs.declared.Refusal.the-variants.{ClockFull}
+use Rattle.refusal.specs.Refusal.{refusalBy}
 use Rattle.refusal.specs.declared.Verdict.{Verdict}
 use Rattle.refusal.specs.declared.Verdict.the-variants.{Accepted, Refused}
 use Rattle.cycle.specs.Cycle.{isWidth, isPort, narrower, transferTime}
@@ -228,7 +228,7 @@ stateAfter s t =
     }
 
 abbrev pub verdictIf : Bool → Verdict
-verdictIf full = cond full (Refused ClockFull) Accepted
+verdictIf full = cond full (Refused (refusalBy 6)) Accepted
 
 -- what a run gives, with the arrays after it
 abbrev pub ranOf : State → List Bool → List ℕ → List ℕ → List ℕ → List ℕ → List ℕ → Ran
@@ -246,7 +246,7 @@ worldOf w = world (w .channel) (w .tally) (w .slave) (w .master)
 
 unfoldable pub toCome : Setup → ℕ → Running → Out
 toCome setup budget w =
-    cond (w .full) (ended (Refused ClockFull) (w .done) (worldOf w)) (runFrom setup (budget - w .done) (w .done) (worldOf w))
+    cond (w .full) (ended (Refused (refusalBy 6)) (w .done) (worldOf w)) (runFrom setup (budget - w .done) (w .done) (worldOf w))
 
 -- the route of a path: Q, and the time of a transfer of W bytes
 abbrev pub routeOf : Path → Route

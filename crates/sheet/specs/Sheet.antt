@@ -7,7 +7,7 @@ use lib.ListN.{length, getD, set, replicate}
 use lib.Seq.{sets}
 use lib.Dec.{eqb, leb, ltb}
 use Rattle.refusal.specs.declared.Refusal.{Refusal}
-use Rattle.refusal.specs.declared.Refusal.the-variants.{SheetEnds, BadEdition, BadLevels, BadSlaves, BadEvents, Follows, NoRoom}
+use Rattle.refusal.specs.Refusal.{refusalBy}
 use Rattle.number.specs.declared.NumberRead.{NumberRead}
 use Rattle.number.specs.declared.NumberRead.the-variants.{Number, Refused as NoNumber}
 use Rattle.number.specs.Number.{readAt, bytesOf}
@@ -23,7 +23,7 @@ use Rattle.sheet.specs.declared.SheetAnswer.the-variants.{Done, Refused}
 
 -- what stands at a place of a sheet: `readAt` says it of bytes, and this of a list. "10: the sheet ends .. before [a number] that is due"
 unfoldable pub listAt : List ℕ → ℕ → NumberRead
-listAt list at = cond (ltb at (length list)) (Number (getD list at 0) (at + 1)) (NoNumber SheetEnds at)
+listAt list at = cond (ltb at (length list)) (Number (getD list at 0) (at + 1)) (NoNumber (refusalBy 10) at)
 
 abbrev pub Source : Type 0
 Source = ℕ → NumberRead
@@ -80,7 +80,7 @@ levels =
     record {
       Table = LevelRows;
       size = 3;
-      why = BadLevels;
+      why = refusalBy 13;
       none = λ count. record { rows = replicate 16 noLevel; count = count };
       put = λ table i row. withLevel table i (levelOf row);
       fits = levelRowFits;
@@ -99,7 +99,7 @@ slaves =
     record {
       Table = SlaveRows;
       size = 5;
-      why = BadSlaves;
+      why = refusalBy 14;
       none = λ count. record { rows = replicate 16 noSlave; count = count };
       put = λ table i row. withSlave table i (slaveOf row);
       fits = slaveRowFits;
@@ -121,11 +121,11 @@ counted kind src at = withNumber (between src 1 16 (kind .why) at) (λ n next. r
 -- "An event is 0 and a step count 1 to 65,535, or 1, level, direction, space, address, length, offset. Post fields may hold
 -- any number"; "15: event count, kind or step count out of range"
 unfoldable pub stepCount : Source → ℕ → Judged
-stepCount src at = withNumber (between src 1 65535 BadEvents at) (λ steps next. Good next)
+stepCount src at = withNumber (between src 1 65535 (refusalBy 15) at) (λ steps next. Good next)
 
 unfoldable pub event : Source → ℕ → Judged
 event src at =
-    withNumber (between src 0 1 BadEvents at) (λ kind next. cond (eqb kind 0) (stepCount src next) (past src 6 next))
+    withNumber (between src 0 1 (refusalBy 15) at) (λ kind next. cond (eqb kind 0) (stepCount src next) (past src 6 next))
 
 abbrev pub events : Source → ℕ → ℕ → Judged
 events src zero at = Good at
@@ -133,11 +133,11 @@ events src (suc n) at = andThen (event src at) (events src n)
 
 -- "event count, 0 to 1,024, and events"
 unfoldable pub countedEvents : Source → ℕ → Judged
-countedEvents src at = withNumber (between src 0 1024 BadEvents at) (λ n next. events src n next)
+countedEvents src at = withNumber (between src 0 1024 (refusalBy 15) at) (λ n next. events src n next)
 
 -- "16: something follows the end"
 abbrev pub ended : ℕ → ℕ → Judged
-ended len at = cond (ltb at len) (Fault Follows at) (Good at)
+ended len at = cond (ltb at len) (Fault (refusalBy 16) at) (Good at)
 
 -- "Sheet: edition 1; level count and rows ..; slave count and rows ..; event count .. and events." "12: edition not 1."
 unfoldable pub body : Source → ℕ → ℕ → Judged
@@ -146,7 +146,7 @@ body src len at =
     andThen (counted slaves src second) (λ third. andThen (countedEvents src third) (λ end. ended len end)))
 
 unfoldable pub sheet : Source → ℕ → Judged
-sheet src len = withNumber (between src 1 1 BadEdition 0) (λ edition first. body src len first)
+sheet src len = withNumber (between src 1 1 (refusalBy 12) 0) (λ edition first. body src len first)
 
 -- "A sheet is a row of numbers": those of its bytes, up to the end; and the bytes of a list of numbers
 unfoldable pub numbersOf : List ℕ → List ℕ
@@ -158,7 +158,7 @@ allBytes (v ∷ list) = bytesOf v ++ allBytes list
 
 -- "17: place 0, the lent result is too short"; "17 comes last"
 abbrev pub answered : Judged → ℕ → ℕ → SheetAnswer
-answered (Good end) need room = cond (leb need room) (Done need) (Refused NoRoom 0)
+answered (Good end) need room = cond (leb need room) (Done need) (Refused (refusalBy 17) 0)
 answered (Fault why place) need room = Refused why place
 
 -- "A refusal writes nothing; success writes only the result's length."

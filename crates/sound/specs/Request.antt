@@ -1,10 +1,11 @@
 -- What a request, or what is left of one, meets: refusals 3, 4 and 5; and how long its transfers take.
 use Prim.Native.Nat.{ℕ, _+_}
-use mathlib.Core.Bool.{Bool, cond, not, _&&_}
+use mathlib.Core.Bool.{Bool, not, _&&_}
+use mathlib.Core.List.{[], _∷_}
 use lib.Dec.{leb, ltb}
-use Rattle.refusal.specs.declared.Refusal.the-variants.{OutOfRange, OutsideSlave, OutsideMaster}
+use Rattle.refusal.specs.Refusal.{refusedBy}
 use Rattle.refusal.specs.declared.Verdict.{Verdict}
-use Rattle.refusal.specs.declared.Verdict.the-variants.{Accepted, Refused}
+use Rattle.refusal.specs.declared.Verdict.the-variants.{Accepted}
 use Rattle.cycle.specs.Cycle.{isLength, transferTime}
 use Rattle.frame.specs.declared.Setup.{Setup}
 use Rattle.channel.specs.declared.Request.{Request}
@@ -24,13 +25,7 @@ isOutsideMaster setup q = ltb (setup .master) (q .offset + q .left)
 
 unfoldable pub requestVerdict : Setup → Request → Verdict
 requestVerdict setup q =
-    cond
-    (not (isInRange q))
-    (Refused OutOfRange)
-    (cond
-    (not (isInsideSlave setup q))
-    (Refused OutsideSlave)
-    (cond (isOutsideMaster setup q) (Refused OutsideMaster) Accepted))
+    refusedBy ((3, not (isInRange q)) ∷ (4, not (isInsideSlave setup q)) ∷ (5, isOutsideMaster setup q) ∷ []) Accepted
 
 -- the time of the transfer of a level that holds the next byte of a request: the running or next one
 unfoldable pub transferOf : Setup → ℕ → Request → ℕ

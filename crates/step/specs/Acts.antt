@@ -5,7 +5,7 @@ use mathlib.Core.Bool.{Bool, false, cond}
 use mathlib.Core.List.{List}
 use lib.ListN.{replicate}
 use lib.Dec.{ltb}
-use Rattle.refusal.specs.declared.Refusal.the-variants.{ClockFull}
+use Rattle.refusal.specs.Refusal.{refusalBy}
 use Rattle.cycle.specs.Cycle.{masterLane, slaveLane}
 use Rattle.frame.specs.declared.Setup.{Setup}
 use Rattle.channel.specs.declared.Phase.{Phase}
@@ -88,7 +88,7 @@ stepMade setup ch t slave master =
 
 -- refusal 6
 unfoldable pub fullActed : Standing → Acted
-fullActed s = record { phase = s .phase; asked = s .asked; clock = s .clock; tally = s .tally; answer = Refused ClockFull }
+fullActed s = record { phase = s .phase; asked = s .asked; clock = s .clock; tally = s .tally; answer = Refused (refusalBy 6) }
 
 -- the marks after line rule 1
 unfoldable pub marksLeft : List ℕ → List Bool → Phase → List Bool
@@ -170,5 +170,5 @@ abbrev pub cycleMade : Path → ℕ → Channel → Tally → List ℕ → List 
 cycleMade path o ch t slave master =
     cond
     (ltb clockLimit (ch .clock + path .time))
-    (record { stepped = record { channel = ch; tally = t; answer = Refused ClockFull }; slave = slave; master = master })
+    (record { stepped = record { channel = ch; tally = t; answer = Refused (refusalBy 6) }; slave = slave; master = master })
     (cycleDone path o ch t slave master (requestOf ch o))

@@ -1,8 +1,9 @@
 -- Document 01, "One step": what a step is going to do. The bytes of the stores have no part in it.
 use Prim.Native.Nat.{ℕ, _+_}
-use mathlib.Core.Bool.{Bool, cond, not, _&&_}
+use mathlib.Core.Bool.{cond, not, _&&_}
+use mathlib.Core.List.{[], _∷_}
 use lib.Dec.{eqb, ltb}
-use Rattle.refusal.specs.declared.Refusal.the-variants.{Unsound, StoreLength, ClockFull}
+use Rattle.refusal.specs.Refusal.{refusalBy, refusedBy}
 use Rattle.refusal.specs.declared.Verdict.{Verdict}
 use Rattle.refusal.specs.declared.Verdict.the-variants.{Accepted, Refused as NotReady}
 use Rattle.frame.specs.Frame.{isFramed}
@@ -22,7 +23,7 @@ use Rattle.step.specs.declared.Plan.the-variants.{Idle, Refused, Grant, 
 
 -- "6: step: the clock would pass 4,000,000,000"
 abbrev pub timed : Channel → ℕ → Plan → Plan
-timed ch time plan = cond (ltb clockLimit (ch .clock + time)) (Refused ClockFull) plan
+timed ch time plan = cond (ltb clockLimit (ch .clock + time)) (Refused (refusalBy 6)) plan
 
 -- "Granted, owner without a request (only 15). Active line: release .. Otherwise idle"; "Granted, with a request. One cycle runs"
 abbrev pub requestPlan : Setup → Channel → ℕ → Request → Plan
@@ -43,10 +44,11 @@ actPlan setup ch = phasePlan setup ch (ch .phase)
 -- "9 first, then 8": "9: .. step, run: the set-up breaks the frame .. the channel is unsound", "8: step, run: a lent store's length differs from the set-up"
 unfoldable pub readyVerdict : Setup → Channel → ℕ → ℕ → Verdict
 readyVerdict setup ch slave master =
-    cond
-    (not (isFramed setup && isSound setup ch))
-    (NotReady Unsound)
-    (cond (not (eqb slave (slaveStoreLength (setup .slaves)) && eqb master (setup .master))) (NotReady StoreLength) Accepted)
+    refusedBy
+    ((9, not (isFramed setup && isSound setup ch)) ∷
+    (8, not (eqb slave (slaveStoreLength (setup .slaves)) && eqb master (setup .master))) ∷
+    [])
+    Accepted
 
 abbrev pub planBy : Setup → Channel → Verdict → Plan
 planBy setup ch Accepted = actPlan setup ch
