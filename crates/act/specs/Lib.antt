@@ -1,2 +1,3 @@
 pub mod Cycle
 pub mod Turn
+pub mod Entry

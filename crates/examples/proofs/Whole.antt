@@ -68,7 +68,7 @@ use Rattle.tally.specs.Tally.{addGrant, addCycle, addRelease}
 use Rattle.step.specs.Plan.{ownerPlan, actPlan, readyVerdict, planOf}
 use Rattle.step.specs.Step.{stepOf, placeFor, movedSlave, movedMaster, slaveAfter, masterAfter}
 use Rattle.run.specs.Run.{world, after}
-use Rattle.logline.specs.Line.{cycleText}
+use Rattle.act.specs.Entry.{cycleFields}
 use Rattle.number.specs.Number.{readAt, bytesOf}
 use Rattle.sheet.specs.declared.Judged.the-variants.{Good}
 use Rattle.sheet.specs.Sheet.{listAt, between, counted, stepCount, event, countedEvents, body, sheet, numbersOf, allBytes}
@@ -177,7 +177,7 @@ unfolding codes bytes
     areRequestsSound isMarkSound areMarksSound isInTime isAskedAt isAskedSound isSound
     postVerdict posted postOf
     pathOf restAfter slotAfter isLate isLeaving endingOf clocked freed movedOn cycleEntry cycleTurn arbitrationTime granted grantTurn leaveTurn
-    addGrant addCycle addRelease ownerPlan actPlan readyVerdict planOf stepOf placeFor movedSlave movedMaster slaveAfter masterAfter after cycleText
+    addGrant addCycle addRelease ownerPlan actPlan readyVerdict planOf stepOf placeFor movedSlave movedMaster slaveAfter masterAfter after cycleFields
 computed = (
   record {
     good = refl;

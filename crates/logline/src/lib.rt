@@ -7,7 +7,8 @@ ghost use Prim.Native.Nat.{_+_, _≤_};
 ghost use lib.ListN.{length};
 ghost use lib.Seq.{sets};
 ghost use Rattle.logline.specs.Text.{digits, field, lineOf, past, written};
-ghost use Rattle.logline.specs.Line.{endingNumber, cycleText, entryText, postText, stopText, endText, faultText};
+ghost use Rattle.act.specs.Entry.{endingNumber};
+ghost use Rattle.logline.specs.Line.{cycleText, entryText, postText, stopText, endText, faultText};
 
 // The decimal digits of a number, of which as many as `left` may follow the first.
 fn put_digits(out: &mut [u8], at: usize, n: u32, left: u8) -> usize

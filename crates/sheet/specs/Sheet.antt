@@ -7,7 +7,7 @@ use lib.ListN.{length, getD, set, replicate}
 use lib.Seq.{sets}
 use lib.Dec.{eqb, leb, ltb}
 use Rattle.refusal.specs.declared.Refusal.{Refusal}
-use Rattle.refusal.specs.Refusal.{refusalBy}
+use Rattle.refusal.specs.Refusal.{numberOf, refusalBy}
 use Rattle.number.specs.declared.NumberRead.{NumberRead}
 use Rattle.number.specs.declared.NumberRead.the-variants.{Number, Refused as NoNumber}
 use Rattle.number.specs.Number.{readAt, bytesOf}
@@ -155,6 +155,11 @@ numbersOf bytes = numbers (readAt bytes) (length bytes) 0
 abbrev pub allBytes : List ℕ → List ℕ
 allBytes [] = []
 allBytes (v ∷ list) = bytesOf v ++ allBytes list
+
+-- an answer in the paper's numbers: 0 and the result's length, or "S, number, place"
+abbrev pub sheetNumbers : SheetAnswer → List ℕ
+sheetNumbers (Done n) = 0 ∷ n ∷ []
+sheetNumbers (Refused why place) = numberOf why ∷ place ∷ []
 
 -- "17: place 0, the lent result is too short"; "17 comes last"
 abbrev pub answered : Judged → ℕ → ℕ → SheetAnswer

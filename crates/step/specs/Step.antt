@@ -2,10 +2,11 @@
 use Prim.Native.Nat.{ℕ, _+_, _-_, _≤_}
 use mathlib.Core.Path.{_≡_}
 use mathlib.Core.Bool.{true, cond}
-use mathlib.Core.List.{List}
+use mathlib.Core.List.{List, [], _∷_}
 use lib.ListN.{length, drop}
 use lib.Seq.{paste}
 use lib.Dec.{eqb}
+use Rattle.refusal.specs.Refusal.{numberOf}
 use Rattle.frame.specs.Frame.{isFramed}
 use Rattle.frame.specs.Find.{slaveStoreLength}
 use Rattle.frame.specs.declared.Setup.{Setup}
@@ -22,10 +23,24 @@ use Rattle.step.specs.declared.Stepped.{Stepped}
 use Rattle.step.specs.declared.StepAnswer.{StepAnswer}
 use Rattle.step.specs.declared.StepAnswer.the-variants.{Done, Refused as NotDone}
 use Rattle.act.specs.Cycle.{pathOf, cycleBytes, Turned, cycleTurn}
+use Rattle.act.specs.Entry.{entryNumbers}
 use Rattle.act.specs.Turn.{grantTurn, leaveTurn, idleTurn}
 use Rattle.step.specs.Plan.{planOf}
 
--- the channel after a step of a sound channel, and its entry or why it was refused
+-- a plan in the paper's numbers: the refusal; or 0, the letter of the line that its step writes, and whom the step is about
+abbrev pub planNumbers : Plan → List ℕ
+planNumbers (Refused why) = numberOf why ∷ []
+planNumbers Idle = 0 ∷ 73 ∷ []
+planNumbers (Grant winner) = 0 ∷ 71 ∷ winner ∷ []
+planNumbers (Leave owner) = 0 ∷ 82 ∷ owner ∷ []
+planNumbers (Cycle owner) = 0 ∷ 67 ∷ owner ∷ []
+
+-- a step's answer in the paper's numbers: 0 and its entry's, or the refusal; "A refused step .. has no entry"
+abbrev pub stepNumbers : StepAnswer → List ℕ
+stepNumbers (Done entry) = 0 ∷ entryNumbers entry
+stepNumbers (NotDone why) = numberOf why ∷ []
+
+-- the channel after a step, and its entry or why it was refused
 pub record Advanced : Type 0 where
   pub channel : Channel
   pub answer : StepAnswer

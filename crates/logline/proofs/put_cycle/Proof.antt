@@ -1,4 +1,4 @@
-use Rattle.logline.specs.Line.{cycleText}
+use Rattle.act.specs.Entry.{cycleFields}
 use Rattle.logline.specs.Text.{past, written}
 use borrow.Author.Needs.{needs}
 use mathlib.Core.Path.{_≡_, refl, sym, ap, _∙_}
@@ -18,7 +18,7 @@ same-length : tie.Need-same-length
 same-length c = search needs
 
 returns : tie.Need-returns
-unfolding cycleText
+unfolding cycleFields
 returns c =
     let k = c .before .before .put-line .ensures in
     let e = c .before .before .before .before .before .ending-number .ensures in
