@@ -8,7 +8,8 @@ ghost use mathlib.Core.Path.{_≡_};
 ghost use Rattle.act.specs.Cycle.{pathOf, slotAfter, isLate, isLeaving, releasedBy, endingOf, isKept, isMarked};
 ghost use Rattle.act.specs.Turn.{arbitrationTime};
 
-// Where the owner's bytes go: what its row and the slave's say, and where the slave row's bytes start in the slave store.
+// Where the owner's bytes go: what its row and the slave's say, where the slave row's bytes start in the slave store, and
+// how long after its asked time an owner's transfers may go on.
 pub struct Path {
     pub width: u32,
     pub options: u32,

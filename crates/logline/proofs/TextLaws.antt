@@ -47,13 +47,6 @@ fields-more numbers i n h = let k : n - i ≡ suc (n - (i + 1)) = omega arith in
 pub fields-none : (numbers : List ℕ) (i n : ℕ) → n ≤ i → fieldsFrom numbers i (n - i) ≡ []
 fields-none numbers i n h = let k : n - i ≡ 0 = omega arith in rw k
 
--- so many fields take at most eleven places each
-pub fields-most : (numbers : List ℕ) (i left : ℕ) → length (fieldsFrom numbers i left) ≤ 11 * left
-fields-most numbers i zero = omega arith
-fields-most numbers i (suc left) =
-    omega
-    (arith, length-append (field (getD numbers i 0)) (fieldsFrom numbers (suc i) left), digits-most 9 (getD numbers i 0), fields-most numbers (suc i) left)
-
 -- what is left of a line from field i on, with its end
 module _ (numbers : List ℕ) (i n at : ℕ) (out whole : List ℕ) (h : i < n)
     (left : sets out at (fieldsFrom numbers i (n - i) ++ (10 ∷ [])) ≡ whole) where

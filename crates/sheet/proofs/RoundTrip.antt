@@ -135,10 +135,6 @@ module _ (s : List ℕ) (bytes : Bytes s) where
   pub bytes-back : {end : ℕ} → sheet (readAt s) (length s) ≡ Good end → allBytes (numbersOf s) ≡ s
   bytes-back e = told (rw e at (sheet-tells (readAt s) (length s))) (sheet-parts (readAt s) (length s) e .whole) .1
 
-  -- A valid sheet has at most 7,300 numbers.
-  pub numbers-whole : {end : ℕ} → sheet (readAt s) (length s) ≡ Good end → length (numbersOf s) ≤ 7300
-  numbers-whole e = told (rw e at (sheet-tells (readAt s) (length s))) (sheet-parts (readAt s) (length s) e .whole) .0
-
 -- in a list each number of a run is one index
 list-run : (list : List ℕ) {n at end : ℕ} → Run (listAt list) n at end → at ≤ length list → (end ≡ at + n) × (end ≤ length list)
 list-run list none h = (omega arith, h)

@@ -1,4 +1,5 @@
-// The test for an unsound channel, and the post (document 01, "Refusal numbers").
+// The test for an unsound channel (document 01, "Refusal numbers"), and what a request, posted or open, may meet: refusals
+// 3, 4 and 5.
 use channel::Asked;
 use channel::Channel;
 use channel::Judged;

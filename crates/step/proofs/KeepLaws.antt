@@ -174,15 +174,6 @@ module _ (setup : Setup) (framed : isFramed setup ≡ true) (ch : Channel) (shap
   fits : Fits setup (requestOf ch o)
   fits = fits-is setup (requestOf ch o) (s .settled .request o (omega (arith, small)) asks .1)
 
-  -- a cycle moves at least one byte
-  bytes-some : 0 < cycleBytes (pathAt setup ch o) (requestOf ch o)
-  unfolding pathOf
-  bytes-some =
-      let w = width-some _ (level-facts-of setup framed o present .0 .width) in
-      let p = port-some _ (slave-facts-of setup framed (requestOf ch o) fits .facts .port) in
-      length-some (narrower (pathAt setup ch o .width) (pathAt setup ch o .port)) (requestOf ch o .address) (requestOf ch o .left) (omega arith)
-      (fits .some)
-
   -- what is left lies in the same row
   part : 0 < restAt setup ch o .left
       → slaveRow (setup .slaves) (restAt setup ch o .space) (restAt setup ch o .address) (restAt setup ch o .left)
