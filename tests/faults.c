@@ -5,12 +5,15 @@
  *   broken       the second read fails
  *   full         the second write fails, and another one after that is told on standard error
  *   deaf         a write takes nothing
+ *   no_input     standard input is closed before the program starts
+ *   no_output    standard output is
  * It includes no header, so that it can be made for x86-64 on every machine.
  */
 long syscall(long number, ...);
 int *__errno_location(void);
 char *getenv(const char *name);
 int strcmp(const char *a, const char *b);
+int close(int fd);
 
 enum { READ = 0, WRITE = 1, INTERRUPTED = 4, BROKEN = 5, FULL = 28 };
 
@@ -18,6 +21,12 @@ static int is_asked(const char *fault)
 {
     const char *asked = getenv("FAULT");
     return asked && strcmp(asked, fault) == 0;
+}
+
+__attribute__((constructor)) static void shut(void)
+{
+    if (is_asked("no_input")) close(0);
+    if (is_asked("no_output")) close(1);
 }
 
 static long failed(int error)
