@@ -9,6 +9,7 @@ SEED = 1
 
 run:
 	@$(call proved,sheetrun)
+	@tests/link sheetrun
 	@tests/run-program target/bin/sheetrun <$(SHEET)
 
 prove:
@@ -19,10 +20,12 @@ test:
 
 compare:
 	@$(call proved,sheetrun)
+	@tests/link sheetrun
 	@tests/compare $(N) $(SEED)
 
 bench:
 	@$(call proved,sheetrun benchrun)
+	@tests/link sheetrun
 	@bench/bench
 
 clean:

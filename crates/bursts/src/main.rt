@@ -10,6 +10,8 @@ use libc::STDOUT_FILENO;
 use post::Order;
 use refusal::Verdict;
 use tally::Tally;
+ghost use mathlib.Core.Path.{_≡_};
+ghost use Rattle.run.specs.Run.{world, runOf};
 
 fn levels() -> LevelRows {
     let none = LevelRow {
@@ -90,42 +92,83 @@ fn contended(setup: Setup) -> Channel {
     post::post(setup, first, order(7, 8192, 2)).channel
 }
 
-// The cycles that have run and the longest hold, after so many steps.
-fn show(setup: Setup, steps: u32) {
-    let mut slave = [0u8; 8192];
-    let mut master = [1u8; 4096];
-    let none = Tally {
+fn no_tally() -> Tally {
+    Tally {
         grants: 0,
         cycles: 0,
         bytes: 0,
         hold: 0,
-    };
+    }
+}
+
+// The tally after a run, to which it was lent.
+fn tally_of(
+    setup: Setup,
+    channel: Channel,
+    start: Tally,
+    slave: &mut [u8],
+    master: &mut [u8],
+    steps: u32,
+) -> Tally
+    ensures { λ r. ⌜ r ≡ runOf setup steps (world channel start (now (slave .entry)) (now (master .entry))) .result .tally ⌝ }
+{
+    let mut tally = start;
+    lent::run(setup, channel, &mut tally, slave, master, steps);
+    tally
+}
+
+// The cycles that have run and the longest hold, after so many steps; false where they can't be printed.
+fn show(setup: Setup, steps: u32) -> bool {
+    let mut slave = [0u8; 8192];
+    let mut master = [1u8; 4096];
     let channel = contended(setup);
-    let ran = run::run(setup, channel, none, &mut slave, &mut master, steps);
-    let figures = ran.tally;
-    print_pair(figures.cycles, figures.hold);
+    let figures = tally_of(setup, channel, no_tally(), &mut slave, &mut master, steps);
+    print_pair(figures.cycles, figures.hold)
 }
 
-fn print_pair(a: u32, b: u32) {
-    io::print_decimal(STDOUT_FILENO, a as u64);
-    io::write_all(STDOUT_FILENO, b" ");
-    io::print_decimal(STDOUT_FILENO, b as u64);
-    io::write_all(STDOUT_FILENO, b"\n");
+fn print_pair(a: u32, b: u32) -> bool {
+    if !io::print_decimal(STDOUT_FILENO, a as u64) {
+        return false;
+    }
+    if !io::write_all(STDOUT_FILENO, b" ") {
+        return false;
+    }
+    if !io::print_decimal(STDOUT_FILENO, b as u64) {
+        return false;
+    }
+    io::write_all(STDOUT_FILENO, b"\n")
 }
 
-fn main() {
+// Two runs, of which the second has one step more: the last cycle of the burst.
+fn show_both(setup: Setup, steps: u32, more: u32) -> bool {
+    if !show(setup, steps) {
+        return false;
+    }
+    show(setup, more)
+}
+
+fn show_all() -> bool {
     // W and P of 4, 200 ns: the 39th transfer is the last
-    show(frame_with(4, 200), 39);
-    show(frame_with(4, 200), 40);
+    if !show_both(frame_with(4, 200), 39, 40) {
+        return false;
+    }
     // 300 ns: the 26th
-    show(frame_with(4, 300), 26);
-    show(frame_with(4, 300), 27);
+    if !show_both(frame_with(4, 300), 26, 27) {
+        return false;
+    }
     // P of 1, 1,950 ns: one transfer, of four cycles
-    show(frame_with(1, 1950), 4);
-    show(frame_with(1, 1950), 5);
+    if !show_both(frame_with(1, 1950), 4, 5) {
+        return false;
+    }
     // a post at address 4,294,967,295 with length 4,096: refusal 4
     let setup = frame_with(4, 200);
     let fresh = channel::set_up(setup).channel;
     let verdict = post::post(setup, fresh, order(3, 4294967295, 4096)).verdict;
-    print_pair(refusal::verdict_number(verdict) as u32, 0);
+    print_pair(refusal::verdict_number(verdict) as u32, 0)
+}
+
+fn main() {
+    if !show_all() {
+        os::fail(b"bursts: standard output");
+    }
 }

@@ -1,0 +1,58 @@
+use Prim.Native.Nat.{_-_, _<_}
+use lib.ListN.{length}
+use native.Mathlib.Omega.{arith}
+use Rattle.sheetlog.proofs.log.digest.Statement.{statement}
+use Rattle.sheetlog.proofs.log.digest.Tie as tie
+
+abbrev Inv-loop : tie.InvT-loop
+Inv-loop store d₀ i₀ d i = d < 4294967291
+
+abbrev μ-loop : tie.MeasureT-loop
+μ-loop store d₀ i₀ d i = length store - i
+
+loop-holds : tie.Need-loop-holds Inv-loop μ-loop
+loop-holds c = omega arith
+
+mul-d : tie.Need-mul-d Inv-loop μ-loop
+mul-d c = omega arith
+
+shared-slice-read-wide : tie.Need-shared-slice-read-wide Inv-loop μ-loop
+shared-slice-read-wide c = omega arith
+
+wide-requires : tie.Need-wide-requires Inv-loop μ-loop
+wide-requires c κs = tt
+
+add-d : tie.Need-add-d Inv-loop μ-loop
+add-d c = omega arith
+
+add-d-2 : tie.Need-add-d-2 Inv-loop μ-loop
+add-d-2 c = omega arith
+
+add-i : tie.Need-add-i Inv-loop μ-loop
+add-i c = omega arith
+
+loop-less : tie.Need-loop-less Inv-loop μ-loop
+loop-less c = omega arith
+
+loop-again : tie.Need-loop-again Inv-loop μ-loop
+loop-again c = omega arith
+
+returns : tie.Need-returns Inv-loop μ-loop
+returns c = tt
+
+pub digest-spec : {M : Type 1} → statement M
+digest-spec =
+    tie.close
+    (tie.spec
+    Inv-loop
+    μ-loop
+    loop-holds
+    mul-d
+    shared-slice-read-wide
+    wide-requires
+    add-d
+    add-d-2
+    add-i
+    loop-less
+    loop-again
+    returns)

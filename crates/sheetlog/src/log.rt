@@ -1,0 +1,333 @@
+// One sheet: its judgement, its events one after the other, and its log, in a buffer that is written where it is full. Where a
+// write fails nothing more is run or written.
+use crate::streams::no_room;
+use crate::streams::write_first;
+use act::Entry;
+use channel::Channel;
+use frame::Setup;
+use post::Order;
+use refusal::Refusal;
+use sheet::SheetAnswer;
+use sheetlist::Event;
+use sheetlist::PostFields;
+use step::StepAnswer;
+use tally::Tally;
+ghost use Prim.Native.Nat.{_+_, _<_, _≤_};
+
+// Room for the longest line of a log.
+const LINE: usize = 96;
+
+// The channel and the tally as the log goes on, how much of the buffer is filled, and whether a write has failed.
+struct Session {
+    channel: Channel,
+    tally: Tally,
+    filled: usize,
+    failed: bool,
+}
+
+// How much of the buffer is filled, or that it could not be written.
+enum Kept {
+    Failed,
+    Filled(usize),
+}
+
+fn no_tally() -> Tally {
+    Tally {
+        grants: 0,
+        cycles: 0,
+        bytes: 0,
+        hold: 0,
+    }
+}
+
+// Writes what the buffer holds where no other line may fit.
+fn flushed(out: &[u8], filled: usize) -> Kept {
+    if filled <= out.len() {
+        if LINE <= out.len() - filled {
+            return Kept::Filled(filled);
+        }
+    }
+    if write_first(out, filled) {
+        Kept::Filled(0)
+    } else {
+        Kept::Failed
+    }
+}
+
+// Master store: byte i is i mod 251.
+fn fill_master(master: &mut [u8]) {
+    let mut i: usize = 0;
+    while i < master.len() {
+        master[i] = (i % 251) as u8;
+        i += 1;
+    }
+}
+
+fn fill_zero(store: &mut [u8]) {
+    let mut i: usize = 0;
+    while i < store.len() {
+        store[i] = 0;
+        i += 1;
+    }
+}
+
+fn stopped(channel: Channel, tally: Tally) -> Session {
+    Session {
+        channel: channel,
+        tally: tally,
+        filled: 0,
+        failed: true,
+    }
+}
+
+fn going(channel: Channel, tally: Tally, filled: usize) -> Session {
+    Session {
+        channel: channel,
+        tally: tally,
+        filled: filled,
+        failed: false,
+    }
+}
+
+// Up to so many steps, each with its line; a step that meets 6 ends the event.
+fn log_steps(
+    setup: Setup,
+    session: Session,
+    slave: &mut [u8],
+    master: &mut [u8],
+    out: &mut [u8],
+    steps: u32,
+) -> Session {
+    let mut channel = session.channel;
+    let mut tally = session.tally;
+    let mut filled = session.filled;
+    let mut done: u32 = 0;
+    while done < steps {
+        let kept = flushed(out, filled);
+        let Kept::Filled(at) = kept else {
+            return stopped(channel, tally);
+        };
+        let next = step::step(setup, channel, tally, slave, master);
+        let answer = next.answer;
+        let StepAnswer::Done(entry) = answer else {
+            let stop = logline::put_stop(out, at, channel.clock);
+            return going(channel, tally, stop);
+        };
+        filled = logline::put_entry(out, at, entry);
+        channel = next.channel;
+        tally = next.tally;
+        done += 1;
+    }
+    going(channel, tally, filled)
+}
+
+fn log_post(setup: Setup, session: Session, out: &mut [u8], order: PostFields) -> Session {
+    let channel = session.channel;
+    let tally = session.tally;
+    let kept = flushed(out, session.filled);
+    let Kept::Filled(at) = kept else {
+        return stopped(channel, tally);
+    };
+    let judged = post::post(setup, channel, order_of(order));
+    let next = judged.channel;
+    let verdict = judged.verdict;
+    let number = refusal::verdict_number(verdict) as u32;
+    let past = logline::put_post(out, at, next.clock, order.level, number);
+    going(next, tally, past)
+}
+
+fn order_of(order: PostFields) -> Order {
+    Order {
+        level: order.level,
+        direction: order.direction,
+        space: order.space,
+        address: order.address,
+        length: order.length,
+        offset: order.offset,
+    }
+}
+
+// The events of a valid list, one after the other, and the last line.
+fn log_events(
+    setup: Setup,
+    list: &[u32],
+    slave: &mut [u8],
+    master: &mut [u8],
+    out: &mut [u8],
+) -> Session {
+    let mut session = going(channel::fresh_channel(), no_tally(), 0);
+    let count = sheetlist::event_count(list);
+    let mut at = sheetlist::first_event(list);
+    let mut i: usize = 0;
+    while i < count {
+        let event = sheetlist::event_at(list, at);
+        session = log_event(setup, session, slave, master, out, event);
+        if session.failed {
+            return session;
+        }
+        at = sheetlist::next_event(list, at);
+        i += 1;
+    }
+    finish(session, out)
+}
+
+fn log_event(
+    setup: Setup,
+    session: Session,
+    slave: &mut [u8],
+    master: &mut [u8],
+    out: &mut [u8],
+    event: Event,
+) -> Session {
+    match event {
+        Event::Steps(steps) => log_steps(setup, session, slave, master, out, steps),
+        Event::Post(order) => log_post(setup, session, out, order),
+    }
+}
+
+fn finish(session: Session, out: &mut [u8]) -> Session {
+    let channel = session.channel;
+    let tally = session.tally;
+    let kept = flushed(out, session.filled);
+    let Kept::Filled(at) = kept else {
+        return stopped(channel, tally);
+    };
+    let past = logline::put_end(out, at, channel.clock, tally.bytes);
+    going(channel, tally, past)
+}
+
+// The digest of a store: 1, and then for each byte times 257, plus the byte, plus 1, mod 4,294,967,291.
+fn digest(store: &[u8]) -> u64 {
+    let mut d: u64 = 1;
+    let mut i: usize = 0;
+    while i < store.len() {
+        d = (d * 257 + wide(store[i]) + 1) % 4294967291;
+        i += 1;
+    }
+    d
+}
+
+fn wide(x: u8) -> u64
+    ensures { λ r. ⌜ r < 256 ⌝ }
+{
+    x as u64
+}
+
+// A space and a number, in a line; answers where they end.
+fn put_number(line: &mut [u8; 128], at: usize, n: u64) -> usize
+    requires { ⌜ at < 128 ⌝ }
+    ensures { λ r. ⌜ r ≤ at + 21 ⌝ }
+{
+    let mut digits = [0u8; 20];
+    let size = io::decimal(n, &mut digits);
+    line[at] = b' ';
+    basics::move_bytes(&digits[..size], 0, line, at + 1, size);
+    at + 1 + size
+}
+
+// The line of a sheet's digests and tally.
+fn print_digests(slave: &[u8], master: &[u8], tally: Tally) -> bool {
+    let mut line = [b'D'; 128];
+    let mut at: usize = 1;
+    at = put_number(&mut line, at, digest(slave));
+    at = put_number(&mut line, at, digest(master));
+    at = put_number(&mut line, at, tally.grants as u64);
+    at = put_number(&mut line, at, tally.cycles as u64);
+    at = put_number(&mut line, at, tally.bytes as u64);
+    at = put_number(&mut line, at, tally.hold as u64);
+    line[at] = b'\n';
+    print_line(&line, at + 1)
+}
+
+fn print_line(line: &[u8; 128], size: usize) -> bool {
+    write_first(line, size)
+}
+
+// A bad sheet prints only its refusal and the place.
+fn log_fault(why: Refusal, place: usize, out: &mut [u8]) -> bool {
+    let number = refusal::refusal_number(why) as u32;
+    if 65535 < place {
+        return no_room();
+    }
+    let filled = logline::put_fault(out, 0, number, place as u32);
+    write_first(out, filled)
+}
+
+// One sheet, whole; `digests` asks for the line behind it. False where a write failed.
+pub(crate) fn run_sheet(
+    sheet: &[u8],
+    slave: &mut [u8],
+    master: &mut [u8],
+    out: &mut [u8],
+    digests: bool,
+) -> bool {
+    fill_master(master);
+    let mut list = [0u32; 7300];
+    let answer = sheet::read_sheet(sheet, &mut list);
+    match answer {
+        SheetAnswer::Refused(why, place) => {
+            if !log_fault(why, place, out) {
+                return false;
+            }
+            if digests {
+                return print_digests(b"", master, no_tally());
+            }
+            true
+        }
+        SheetAnswer::Done(count) => run_first(&list, count, slave, master, out, digests),
+    }
+}
+
+// The numbers of the sheet are the first `count` of the list.
+fn run_first(
+    list: &[u32],
+    count: usize,
+    slave: &mut [u8],
+    master: &mut [u8],
+    out: &mut [u8],
+    digests: bool,
+) -> bool {
+    if list.len() < count {
+        return no_room();
+    }
+    run_list(&list[..count], slave, master, out, digests)
+}
+
+fn run_list(
+    list: &[u32],
+    slave: &mut [u8],
+    master: &mut [u8],
+    out: &mut [u8],
+    digests: bool,
+) -> bool {
+    let setup = sheetlist::setup_of(list, 4096);
+    let slaves = setup.slaves;
+    let size = frame::slave_store_length(slaves);
+    if slave.len() < size {
+        return no_room();
+    }
+    run_over(setup, list, &mut slave[..size], master, out, digests)
+}
+
+fn run_over(
+    setup: Setup,
+    list: &[u32],
+    slave: &mut [u8],
+    master: &mut [u8],
+    out: &mut [u8],
+    digests: bool,
+) -> bool {
+    fill_zero(slave);
+    let session = log_events(setup, list, slave, master, out);
+    if session.failed {
+        return false;
+    }
+    if !write_first(out, session.filled) {
+        return false;
+    }
+    if digests {
+        let tally = session.tally;
+        return print_digests(slave, master, tally);
+    }
+    true
+}
