@@ -1,7 +1,7 @@
 /*
  * Makes job sheets for the comparison of two programs: valid ones of every kind and damaged ones, from a seed.
  * Usage: sheets COUNT SEED.  Each sheet is written behind its length, four bytes, lowest first.
- * The first sheet is one whose clock comes to its limit.
+ * The first sheets are made by hand: one whose clock comes to its limit, and two of the largest step count.
  */
 #include <stdint.h>
 #include <stdio.h>
@@ -115,6 +115,10 @@ static void put_slaves(struct list *list, struct plan *plan)
     }
 }
 
+/* levels that no set-up has, though the low bits are those of one that it may have */
+static const uint32_t odd_levels[] = {255, 271, 65536 + 3, 4294967295u};
+enum { ODD_LEVELS = sizeof odd_levels / sizeof odd_levels[0] };
+
 static void put_post(struct list *list, const struct plan *plan)
 {
     const struct slave *s = &plan->slaves[below(plan->slave_count)];
@@ -124,7 +128,7 @@ static void put_post(struct list *list, const struct plan *plan)
     if (length > 4096) length = 4096;
     uint32_t address = s->base + start, offset = below(4097 - length);
     switch (below(24)) {
-    case 0: level = any() % 300; break;
+    case 0: level = one_in(2) ? any() % 300 : odd_levels[below(ODD_LEVELS)]; break;
     case 1: length = one_in(2) ? 0 : 4097 + below(9); break;
     case 2: direction = 2 + below(5); break;
     case 3: space = one_in(2) ? 2 : 1 - space; break;
@@ -166,17 +170,46 @@ static void make(struct list *list, struct plan *plan)
     put_events(list, plan);
 }
 
-/* level 15 moves 4,096 bytes over a port of 1 byte at 1,950 ns, again and again, until the clock is full */
+/* ---- the first sheets -------------------------------------------------- */
+
+enum { MOST_STEPS = 65535 };
+
+static void put_all(struct list *list, const uint32_t *numbers, size_t count)
+{
+    for (size_t i = 0; i < count; i++) put(list, numbers[i]);
+}
+
+#define PUT_ALL(list, ...)                             \
+    put_all(list, (const uint32_t[]){__VA_ARGS__},     \
+            sizeof((const uint32_t[]){__VA_ARGS__}) / sizeof(uint32_t))
+
+/* level 15 moves 4,096 bytes over a port of 1 byte at 1,950 ns, again and again, until the clock is full, which the largest step count meets too */
 static void make_full(struct list *list)
 {
-    static const uint32_t head[] = {1, 1, 15, 4, 1, 1, 1, 0, 4096, 1, 1950, 1024};
-    list->count = 0;
-    for (size_t i = 0; i < sizeof head / sizeof head[0]; i++) put(list, head[i]);
-    for (uint32_t i = 0; i < 512; i++) {
-        static const uint32_t post[] = {1, 15, 0, 1, 0, 4096, 0, 0, 4097};
-        for (size_t k = 0; k < sizeof post / sizeof post[0]; k++) put(list, post[k]);
-    }
+    PUT_ALL(list, 1, 1, 15, 4, 1, 1, 1, 0, 4096, 1, 1950, 1024);
+    for (uint32_t i = 1; i <= 512; i++) PUT_ALL(list, 1, 15, 0, 1, 0, 4096, 0, 0, i < 512 ? 4097 : MOST_STEPS);
 }
+
+/* nobody asks for anything, but levels that the set-up hasn't */
+static void make_idle(struct list *list)
+{
+    PUT_ALL(list, 1, 1, 15, 4, 0, 1, 1, 0, 4096, 1, 200, 1 + ODD_LEVELS);
+    for (size_t i = 0; i < ODD_LEVELS; i++) PUT_ALL(list, 1, odd_levels[i], 0, 1, 0, 1, 0);
+    PUT_ALL(list, 0, MOST_STEPS);
+}
+
+/* sixteen levels move 4,096 bytes each over a port of 1 byte, which takes more steps than the largest count; it comes twice, a post between */
+static void make_busy(struct list *list)
+{
+    PUT_ALL(list, 1, 16);
+    for (uint32_t level = 0; level < 16; level++) PUT_ALL(list, level, level % 3 ? 4 : 2, level % 8);
+    PUT_ALL(list, 1, 1, 0, 4096, 1, 200, 19);
+    for (uint32_t level = 0; level < 16; level++) PUT_ALL(list, 1, level, level % 2, 1, 0, 4096, 0);
+    PUT_ALL(list, 0, MOST_STEPS, 1, 3, 0, 1, 0, 4096, 0, 0, MOST_STEPS);
+}
+
+static void (*const made_by_hand[])(struct list *) = {make_full, make_idle, make_busy};
+enum { BY_HAND = sizeof made_by_hand / sizeof made_by_hand[0] };
 
 /* ---- damage ------------------------------------------------------------ */
 
@@ -234,10 +267,13 @@ int main(int argc, char **argv)
     }
     unsigned long count = strtoul(argv[1], NULL, 10);
     state = strtoull(argv[2], NULL, 10) * UINT64_C(0x9E3779B97F4A7C15) + 1;
-    make_full(&list);
-    encode(&list, &sheet);
-    emit(&sheet);
-    for (unsigned long i = 1; i < count; i++) {
+    for (unsigned long i = 0; i < count && i < BY_HAND; i++) {
+        list.count = 0;
+        made_by_hand[i](&list);
+        encode(&list, &sheet);
+        emit(&sheet);
+    }
+    for (unsigned long i = BY_HAND; i < count; i++) {
         make(&list, &plan);
         uint32_t kind = below(10);
         if (kind < 3) spoil_list(&list);
