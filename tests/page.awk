@@ -10,7 +10,7 @@ function settle(where,    i) {
 }
 # One name in backquotes. An expression has blanks and is passed over.
 function quoted(text) {
-    if (text ~ /[ ′()<>]/ || text == "&mut") return
+    if (text ~ /[ ()<>]|′/ || text == "&mut") return
     if (text ~ /::/) { crate = text; sub(/::.*/, "", crate); sub(/.*::/, "", text); need("function\t" crate "\t" text) }
     else if (text ~ /^[a-z]+\/[A-Za-z_0-9]+$/ && text !~ /^tests\//) slashed(text, "")
     else if (text ~ /\//) need("path\t" text)
