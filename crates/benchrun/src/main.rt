@@ -4,7 +4,6 @@
 // stores are printed, so that another program can be compared with it.
 use channel::Asked;
 use channel::Channel;
-use channel::Phase;
 use frame::Setup;
 use libc::STDIN_FILENO;
 use libc::STDOUT_FILENO;
@@ -12,7 +11,6 @@ use post::Order;
 use sheet::SheetAnswer;
 use sheetlist::Event;
 use sheetlist::PostFields;
-use step::StepAnswer;
 use tally::Tally;
 ghost use Prim.Native.Nat.{_<_};
 

@@ -8,7 +8,6 @@ use frame::SlaveRow;
 use frame::SlaveRows;
 use libc::STDOUT_FILENO;
 use post::Order;
-use refusal::Verdict;
 use tally::Tally;
 ghost use mathlib.Core.Path.{_≡_};
 ghost use Rattle.run.specs.Run.{world, runOf};

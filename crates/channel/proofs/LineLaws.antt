@@ -1,15 +1,14 @@
 -- Laws of the line, the line rule and the winner.
 use Prim.Native.Nat.{ℕ, zero, suc, _<_, _≤_}
 use mathlib.Core.Path.{_≡_, refl, sym, ap, _∙_}
-use mathlib.Core.Bool.{Bool, true, false, cond, not, _&&_, and-true, false≢true}
+use mathlib.Core.Bool.{Bool, true, false, not, and-true}
 use mathlib.Core.Logic.{_⊎_, inl, inr}
 use mathlib.Core.List.{List}
 use native.Mathlib.Omega.{arith}
 use borrow.Author.Tests.{eqb-false, ne-eqb, not-true}
-use lib.ListN.{length, getD, replicate, getD-replicate, length-replicate, List·getD-eq-default}
+use lib.ListN.{length, replicate, getD-replicate, length-replicate, List·getD-eq-default}
 use lib.Seq.{ext-getD, set-out}
-use lib.Dec.{eqb}
-use Rattle.basics.specs.Scan.{anyBelow, firstFrom}
+use Rattle.basics.specs.Scan.{anyBelow}
 use Rattle.basics.proofs.ScanLaws.{any-hit, any-ext, any-some, any-mono, any-none, first-least, first-finds, first-default}
 use Rattle.basics.proofs.Tests.{by-test, and-left, and-right}
 use Rattle.channel.specs.declared.Phase.{Phase}

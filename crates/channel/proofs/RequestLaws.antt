@@ -1,14 +1,13 @@
 -- A request laid in a level's place: what stands there then, and what stays; and that every call keeps the arrays' shape.
 use Prim.Native.Nat.{ℕ, _<_}
-use mathlib.Core.Path.{_≡_, refl, sym, ap, _∙_}
-use mathlib.Core.Bool.{Bool, true, false}
+use mathlib.Core.Path.{_≡_, refl, _∙_}
 use native.Mathlib.Omega.{arith}
-use lib.ListN.{length, getD, set, length-set, replicate, length-replicate}
+use lib.ListN.{length-set}
 use lib.Seq.{getD-set-same, getD-set-other}
 use Rattle.basics.proofs.Tests.{by-test}
 use Rattle.channel.specs.declared.Channel.{Channel}
 use Rattle.channel.specs.declared.Request.{Request}
-use Rattle.channel.specs.Channel.{hasRequest, requestOf, withRequest, fresh, Shaped}
+use Rattle.channel.specs.Channel.{requestOf, withRequest, fresh, Shaped}
 use Rattle.channel.specs.Line.{line, cleared, timed, lineRule}
 
 pub request-same : (ch : Channel) (l : ℕ) (q : Request) → Shaped ch → l < 16 → requestOf (withRequest ch l q) l ≡ q

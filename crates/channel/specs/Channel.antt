@@ -1,7 +1,7 @@
 -- Document 01, "The frame", its last part: requests, the phase, and the channel after set-up.
 use Prim.Native.Nat.{ℕ}
 use mathlib.Core.Path.{_≡_}
-use mathlib.Core.Bool.{Bool, true, false, not}
+use mathlib.Core.Bool.{Bool, false, not}
 use mathlib.Core.List.{List, [], _∷_}
 use lib.ListN.{length, getD, set, replicate}
 use lib.Dec.{eqb}

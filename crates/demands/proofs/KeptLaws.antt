@@ -1,32 +1,23 @@
 -- Whatever the host does, the channel stays sound and the stores keep their lengths.
-use Prim.Native.Nat.{ℕ, _+_, _-_, _≤_}
-use mathlib.Core.Path.{_≡_, refl, sym, ap, _∙_}
-use mathlib.Core.Bool.{Bool, true, false, cond}
+use Prim.Native.Nat.{ℕ}
+use mathlib.Core.Path.{_≡_, refl, _∙_}
 use mathlib.Core.List.{List, [], _∷_}
-use native.Mathlib.Omega.{arith}
-use lib.ListN.{length, drop, length-drop}
-use lib.Seq.{paste, length-paste}
-use lib.Dec.{eqb}
+use lib.ListN.{length}
 use Rattle.refusal.specs.Refusal.{isAccepted}
-use Rattle.refusal.specs.declared.Verdict.{Verdict}
-use Rattle.refusal.specs.declared.Verdict.the-variants.{Accepted, Refused}
 use Rattle.basics.proofs.Tests.{by-test}
 use Rattle.frame.specs.declared.Setup.{Setup}
 use Rattle.channel.specs.declared.Channel.{Channel}
-use Rattle.channel.specs.declared.Request.{Request}
 use Rattle.channel.specs.Channel.{requestOf, withRequest, Shaped}
 use Rattle.channel.proofs.RequestLaws.{with-shaped, rule-shaped}
-use Rattle.sound.specs.Sound.{isSound}
-use Rattle.sound.proofs.SoundFacts.{Sound, sound-is, sound-by, accepted-is}
+use Rattle.sound.proofs.SoundFacts.{sound-is, sound-by, accepted-is}
 use Rattle.post.specs.declared.Order.{Order}
 use Rattle.post.specs.Post.{requestIn, postVerdict, posted, postOf}
 use Rattle.post.proofs.PostLaws.{post-sound}
-use Rattle.act.specs.declared.Path.{Path}
-use Rattle.act.specs.Cycle.{pathOf, cycleBytes}
+use Rattle.act.specs.Cycle.{pathOf}
 use Rattle.step.specs.declared.Plan.{Plan}
 use Rattle.step.specs.declared.Plan.the-variants as plan
-use Rattle.step.specs.Plan.{actPlan, planOf}
-use Rattle.step.specs.Step.{Ready, advancedBy, stepOf, placeFor, movedSlave, movedMaster, slaveBy, masterBy, slaveAfter, masterAfter}
+use Rattle.step.specs.Plan.{actPlan}
+use Rattle.step.specs.Step.{Ready, stepOf, slaveBy, masterBy, slaveAfter, masterAfter}
 use Rattle.step.proofs.PlanLaws.{planned-roomy, moved-lengths, plan-ready}
 use Rattle.step.proofs.KeepLaws.{step-sound, step-shaped}
 use Rattle.demands.specs.History.{Moment, Act, posts, steps, next, after, Start}

@@ -1,11 +1,11 @@
 -- A level's cycles cover its requests in posting order, each byte once.
-use Prim.Native.Nat.{ℕ, zero, suc, _+_, _-_, _≤_}
-use mathlib.Core.Path.{_≡_, refl, sym, ap, ap₂, _∙_}
-use mathlib.Core.Bool.{Bool, true, false, cond, not, _&&_, false≢true}
+use Prim.Native.Nat.{ℕ, zero, suc, _+_, _-_}
+use mathlib.Core.Path.{_≡_, refl, sym, ap, _∙_}
+use mathlib.Core.Bool.{true, cond, false≢true}
 use mathlib.Core.List.{List, [], _∷_, _++_, append-assoc, append-nil}
 use native.Mathlib.Nat.{add-zero, suc-add, zero-add}
 use native.Mathlib.Omega.{arith}
-use borrow.Author.Tests.{eqb-true, eqb-false, eq-eqb}
+use borrow.Author.Tests.{eqb-true, eqb-false}
 use lib.ListN.{length, length-append}
 use lib.Dec.{eqb}
 use Rattle.basics.proofs.Tests.{by-test}
@@ -14,8 +14,7 @@ use Rattle.frame.specs.declared.Setup.{Setup}
 use Rattle.frame.specs.Frame.{isFramed}
 use Rattle.channel.specs.declared.Channel.{Channel}
 use Rattle.channel.specs.declared.Request.{Request}
-use Rattle.channel.specs.Channel.{hasRequest, requestOf, withRequest, fresh, Shaped}
-use Rattle.channel.specs.Line.{lineRule}
+use Rattle.channel.specs.Channel.{hasRequest, requestOf, withRequest, Shaped}
 use Rattle.channel.proofs.RequestLaws.{request-same, request-other}
 use Rattle.sound.proofs.SoundFacts.{Sound, sound-is, accepted-is}
 use Rattle.sound.proofs.RequestFacts.{level-facts-of}
@@ -23,11 +22,9 @@ use Rattle.post.specs.declared.Order.{Order}
 use Rattle.post.specs.Post.{requestIn, postVerdict, posted, postOf}
 use Rattle.post.proofs.PostLaws.{Allowed, allowed}
 use Rattle.act.specs.declared.Path.{Path}
-use Rattle.act.specs.declared.Ending.{Ending}
-use Rattle.act.specs.declared.Ending.the-variants.{Kept, Released, Marked}
 use Rattle.act.specs.declared.Entry.{Entry}
 use Rattle.act.specs.declared.Entry.the-variants.{Idle, Grant, Cycle, Release}
-use Rattle.act.specs.Cycle.{pathOf, cycleBytes, restAfter, slotAfter, noRequest, endingOf, freed, endedBy, movedOn, cycleEntry, cycleTurn}
+use Rattle.act.specs.Cycle.{pathOf, cycleBytes, restAfter, slotAfter, endingOf, freed, endedBy, movedOn, cycleEntry, cycleTurn}
 use Rattle.act.specs.Turn.{granted, grantTurn, leaveTurn}
 use Rattle.act.proofs.EndingLaws.{ended-request}
 use Rattle.step.specs.declared.Plan.{Plan}
@@ -48,8 +45,6 @@ use Rattle.demands.specs.Bytes.{
   bytesOf,
   openBytes,
   askedBy,
-  carriedIn,
-  isCycleOf,
   movedFor,
   answerAt,
   movedBy,

@@ -1,11 +1,11 @@
 -- The sums of demand 3 after set-up, where nothing is open yet.
 use Prim.Native.Nat.{ℕ, _+_}
-use mathlib.Core.Path.{_≡_, refl, sym, ap, _∙_}
+use mathlib.Core.Path.{_≡_, sym, ap, _∙_}
 use mathlib.Core.Bool.{true}
-use mathlib.Core.List.{List, [], _++_}
+use mathlib.Core.List.{List, _++_}
 use native.Mathlib.Omega.{arith}
 use borrow.Author.Tests.{ltb-true, ltb-false}
-use lib.ListN.{length, getD, replicate, getD-replicate, length-replicate, List·getD-eq-default}
+use lib.ListN.{length, getD-replicate, length-replicate, List·getD-eq-default}
 use lib.Dec.{ltb}
 use Rattle.basics.proofs.Tests.{by-test}
 use Rattle.frame.specs.declared.Setup.{Setup}
@@ -14,7 +14,7 @@ use Rattle.frame.specs.Find.{slaveStoreLength}
 use Rattle.channel.specs.Channel.{requestOf, fresh}
 use Rattle.demands.specs.History.{Moment, Act, after}
 use Rattle.demands.specs.Log.{logOf}
-use Rattle.demands.specs.Bytes.{Byte, bytesFrom, firstByte, openBytes, asked, moved, logged}
+use Rattle.demands.specs.Bytes.{bytesFrom, firstByte, openBytes, asked, moved, logged}
 use Rattle.demands.proofs.OrderLaws.{in-order, sums}
 use Rattle.demands.proofs.BoundLaws.{fresh-start}
 

@@ -1,22 +1,19 @@
 -- Every byte of both stores is the one that the last cycle into it carried, or the starting value.
 use Prim.Native.Nat.{ℕ, zero, suc, _+_, _-_, _≤_, _<_}
-use mathlib.Core.Path.{_≡_, refl, sym, ap, ap₂, _∙_}
-use mathlib.Core.Bool.{Bool, true, false, cond, not, _&&_, and-false, false≢true}
-use mathlib.Core.List.{List, [], _∷_, _++_, append-assoc}
+use mathlib.Core.Path.{_≡_, refl, sym, ap, _∙_}
+use mathlib.Core.Bool.{Bool, true, false, cond, not, _&&_, false≢true}
+use mathlib.Core.List.{List, [], _∷_, _++_}
 use native.Mathlib.Nat.{add-zero}
 use native.Mathlib.Omega.{arith}
-use borrow.Author.Tests.{eqb-true, eqb-false, eq-eqb, ne-eqb, le-leb, lt-leb, lt-ltb, le-ltb, leb-true, leb-false, ltb-true, ltb-false}
-use lib.ListN.{length, length-append, getD, take, drop, length-drop, List·getD-append}
+use borrow.Author.Tests.{eqb-true, eqb-false, eq-eqb, le-leb, lt-ltb, leb-true, leb-false, ltb-true, ltb-false}
+use lib.ListN.{length, getD, take, drop, length-drop, List·getD-append}
 use lib.Seq.{paste, length-paste-head, length-take-le, getD-append-add, getD-take, getD-drop}
 use lib.Dec.{eqb, leb, ltb}
 use Rattle.basics.proofs.Tests.{by-test, and-left, and-right}
 use Rattle.frame.specs.declared.Setup.{Setup}
-use Rattle.frame.specs.declared.Place.{Place}
 use Rattle.frame.specs.declared.Place.the-variants.{Nowhere, At}
-use Rattle.frame.specs.Find.{placeOf}
 use Rattle.frame.proofs.FrameLaws.{framed-slaves}
 use Rattle.frame.proofs.SlaveLaws.{places}
-use Rattle.channel.specs.declared.Channel.{Channel}
 use Rattle.channel.specs.declared.Request.{Request}
 use Rattle.channel.specs.Channel.{requestOf}
 use Rattle.sound.proofs.SoundFacts.{sound-is}
@@ -30,7 +27,7 @@ use Rattle.step.specs.Plan.{actPlan, planOf}
 use Rattle.step.specs.Step.{Ready, Roomy, advancedBy, stepOf, placeFor, movedSlave, movedMaster, slaveBy, masterBy, slaveAfter, masterAfter}
 use Rattle.step.proofs.PlanLaws.{says, planned-roomy, plan-ready}
 use Rattle.demands.specs.History.{Moment, Act, posts, steps, noTally, next, after, Start}
-use Rattle.demands.specs.Bytes.{Byte, further, bytesFrom, firstByte, carried, answerAt}
+use Rattle.demands.specs.Bytes.{Byte, further, bytesFrom, firstByte, carried}
 use Rattle.demands.specs.Stores.{
   Side,
   slaves,
@@ -39,7 +36,6 @@ use Rattle.demands.specs.Stores.{
   storeOf,
   endIn,
   goesTo,
-  isAt,
   sourceIn,
   sourceBy,
   Origin,

@@ -1,7 +1,7 @@
 -- A transfer is never torn.
 use Prim.Native.Nat.{ℕ, _+_, _≤_}
 use mathlib.Core.Path.{_≡_, refl, sym, ap, _∙_}
-use mathlib.Core.Bool.{Bool, true, false, false≢true, cond, not, _&&_, _||_}
+use mathlib.Core.Bool.{Bool, true, false, false≢true, not, _||_}
 use mathlib.Core.List.{List, [], _∷_}
 use native.Mathlib.Omega.{arith}
 use borrow.Author.Tests.{eq-eqb}
@@ -11,8 +11,7 @@ use Rattle.basics.proofs.Tests.{by-test}
 use Rattle.refusal.specs.Refusal.{isAccepted}
 use Rattle.frame.specs.Frame.{isFramed}
 use Rattle.frame.specs.declared.Setup.{Setup}
-use Rattle.channel.specs.declared.Phase.{Phase}
-use Rattle.channel.specs.declared.Phase.the-variants.{Arbitrating, Granted}
+use Rattle.channel.specs.declared.Phase.the-variants.{Granted}
 use Rattle.channel.specs.declared.Channel.{Channel}
 use Rattle.channel.specs.declared.Request.{Request}
 use Rattle.channel.specs.Channel.{hasRequest, requestOf, withRequest, Shaped}
@@ -24,10 +23,9 @@ use Rattle.sound.proofs.SoundFacts.{Sound, sound-is, accepted-is}
 use Rattle.post.specs.declared.Order.{Order}
 use Rattle.post.specs.Post.{requestIn, postVerdict, posted, postOf}
 use Rattle.post.proofs.PostLaws.{allowed}
-use Rattle.act.specs.declared.Ending.{Ending}
 use Rattle.act.specs.declared.Ending.the-variants.{Kept}
 use Rattle.act.specs.declared.Entry.{Entry}
-use Rattle.act.specs.Cycle.{pathOf, endingOf, isLeaving, endedBy, movedOn, cycleBytes, cycleEntry, cycleTurn}
+use Rattle.act.specs.Cycle.{pathOf, endingOf, isLeaving, movedOn, cycleBytes, cycleEntry, cycleTurn}
 use Rattle.step.specs.declared.Plan.{Plan}
 use Rattle.step.specs.declared.Plan.the-variants as plan
 use Rattle.step.specs.Plan.{actPlan}

@@ -1,6 +1,6 @@
 -- The bytes that a level asks for, those that its cycles move and those that are open, each in order.
 use Prim.Native.Nat.{ℕ, zero, suc, _+_}
-use mathlib.Core.Bool.{Bool, true, false, cond, _&&_}
+use mathlib.Core.Bool.{Bool, false, cond, _&&_}
 use mathlib.Core.List.{List, [], _∷_, _++_}
 use lib.ListN.{length}
 use lib.Dec.{eqb}
@@ -9,7 +9,6 @@ use Rattle.frame.specs.declared.Setup.{Setup}
 use Rattle.channel.specs.declared.Channel.{Channel}
 use Rattle.channel.specs.declared.Request.{Request}
 use Rattle.channel.specs.Channel.{requestOf}
-use Rattle.post.specs.declared.Order.{Order}
 use Rattle.post.specs.Post.{requestIn, postVerdict}
 use Rattle.act.specs.declared.CycleEntry.{CycleEntry}
 use Rattle.act.specs.declared.Entry.{Entry}

@@ -8,7 +8,7 @@ use Rattle.frame.specs.declared.Setup.{Setup}
 use Rattle.frame.specs.Frame.{isFramed}
 use Rattle.frame.specs.Find.{slaveStoreLength}
 use Rattle.channel.specs.declared.Channel.{Channel}
-use Rattle.channel.specs.Channel.{fresh, Shaped}
+use Rattle.channel.specs.Channel.{Shaped}
 use Rattle.sound.specs.Sound.{isSound}
 use Rattle.post.specs.declared.Order.{Order}
 use Rattle.post.specs.Post.{postOf}

@@ -1,6 +1,6 @@
 -- Document 01, "Both sides of the line": "A lingering burst asked at its grant, W and P of 4, 4,096 bytes from an aligned address".
 use Prim.Native.Nat.{ℕ}
-use mathlib.Core.List.{List, [], _∷_}
+use mathlib.Core.List.{[], _∷_}
 use lib.ListN.{replicate}
 use Rattle.frame.specs.declared.Setup.{Setup}
 use Rattle.frame.specs.Frame.{noLevel, noSlave}

@@ -1,16 +1,16 @@
 -- Laws of the text of a line: its digits by the tests that lead there, how long it can be, and writing it piece by piece.
-use Prim.Native.Nat.{ℕ, zero, suc, _+_, _-_, _*_, _/_, _%_, _≤_, _<_}
-use mathlib.Core.Path.{_≡_, refl, sym, ap, _∙_}
+use Prim.Native.Nat.{ℕ, zero, suc, _+_, _-_, _/_, _%_, _≤_, _<_}
+use mathlib.Core.Path.{_≡_, sym, ap, _∙_}
 use mathlib.Core.List.{List, [], _∷_, _++_, append-assoc}
 use native.Mathlib.Nat.{not-suc-le-zero, add-zero}
 use native.Mathlib.Numerals.{sub-one, add-one}
 use native.Mathlib.Omega.{arith}
-use borrow.Author.Tests.{lt-ltb, le-ltb, ltb-true}
+use borrow.Author.Tests.{lt-ltb, le-ltb}
 use lib.ListN.{length, set, getD, length-append}
 use lib.Seq.{sets}
 use lib.Dec.{ltb}
 use Rattle.basics.proofs.Tests.{by-test}
-use Rattle.logline.specs.Text.{digits, field, fieldsFrom, lineOf}
+use Rattle.logline.specs.Text.{digits, field, fieldsFrom}
 
 pub digits-zero : (left n : ℕ) → left ≡ 0 → digits left n ≡ (48 + n % 10) ∷ []
 digits-zero left n e = rw e

@@ -1,15 +1,13 @@
 -- The fresh channel is sound.
 use Prim.Native.Nat.{ℕ, _<_}
-use mathlib.Core.Path.{_≡_, refl, sym, ap, _∙_}
-use mathlib.Core.Bool.{true, false, not, false≢true}
+use mathlib.Core.Path.{_≡_, refl, sym, _∙_}
+use mathlib.Core.Bool.{true, false, false≢true}
 use native.Mathlib.Omega.{arith}
-use lib.Dec.{eqb}
-use lib.ListN.{getD, replicate, getD-replicate}
+use lib.ListN.{getD-replicate}
 use Rattle.frame.specs.declared.Setup.{Setup}
-use Rattle.channel.specs.declared.Phase.the-variants.{Arbitrating, Granted}
 use Rattle.channel.specs.Channel.{fresh, hasRequest, requestOf}
 use Rattle.sound.specs.Sound.{isBlank}
-use Rattle.sound.proofs.SoundFacts.{Settled, Sound}
+use Rattle.sound.proofs.SoundFacts.{Sound}
 
 -- no level has a request
 fresh-none : (l : ℕ) → l < 16 → hasRequest (fresh .left) l ≡ false

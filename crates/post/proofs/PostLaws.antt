@@ -1,11 +1,11 @@
 -- An accepted post keeps a channel sound; a refused one gives back what it got.
-use Prim.Native.Nat.{ℕ, _+_, _≤_, _<_}
-use mathlib.Core.Path.{_≡_, refl, sym, ap, _∙_}
-use mathlib.Core.Bool.{Bool, true, false, cond, not, _&&_, false≢true}
-use mathlib.Core.Logic.{_⊎_, inl, inr, ⊎-elim}
+use Prim.Native.Nat.{ℕ, _+_, _≤_}
+use mathlib.Core.Path.{_≡_, sym, ap, _∙_}
+use mathlib.Core.Bool.{true, false, not, _&&_, false≢true}
+use mathlib.Core.Logic.{inl, inr, ⊎-elim}
 use native.Mathlib.Omega.{arith}
 use borrow.Author.Tests.{le-leb, eqb-true, eqb-false, ne-eqb, not-false}
-use lib.Dec.{eqb, leb}
+use lib.Dec.{eqb}
 use lib.ListN.{getD}
 use Rattle.refusal.specs.Refusal.{isAccepted}
 use Rattle.refusal.specs.declared.Refusal.{Refusal}
@@ -13,18 +13,17 @@ use Rattle.refusal.specs.declared.Verdict.the-variants.{Accepted, Refused}
 use Rattle.basics.proofs.Tests.{by-test, and-left, and-right}
 use Rattle.frame.specs.Frame.{isFramed}
 use Rattle.frame.specs.declared.Setup.{Setup}
-use Rattle.channel.specs.declared.Phase.the-variants.{Arbitrating, Granted}
-use Rattle.channel.specs.declared.Asked.the-variants.{Never, At}
+use Rattle.channel.specs.declared.Phase.the-variants.{Granted}
 use Rattle.channel.specs.declared.Channel.{Channel}
 use Rattle.channel.specs.declared.Request.{Request}
-use Rattle.channel.specs.Channel.{ownerOf, hasRequest, requestOf, withRequest, Shaped}
-use Rattle.channel.specs.Line.{isInactive, lineActive, line, lineRule}
-use Rattle.channel.proofs.LineLaws.{Drives, line-by, line-some}
+use Rattle.channel.specs.Channel.{hasRequest, requestOf, withRequest, Shaped}
+use Rattle.channel.specs.Line.{line}
+use Rattle.channel.proofs.LineLaws.{line-by, line-some}
 use Rattle.channel.proofs.RequestLaws.{request-same, request-other}
 use Rattle.sound.specs.Rows.{isPresent}
 use Rattle.sound.specs.Request.{requestVerdict, transferOf}
 use Rattle.sound.specs.Sound.{allowance, isWithin, isInTime, isBlank, isSound}
-use Rattle.sound.proofs.SoundFacts.{Grant, InTime, Settled, Sound, sound-is}
+use Rattle.sound.proofs.SoundFacts.{InTime, Settled, Sound, sound-is}
 use Rattle.sound.proofs.RequestFacts.{Fits, fits-is, level-facts-of, transfer-fits}
 use Rattle.sound.proofs.RuleLaws.{rule-sound}
 use Rattle.post.specs.declared.Order.{Order}

@@ -1,5 +1,4 @@
 -- Document 01, "The frame" and "Refusal numbers": the post.
-use Prim.Native.Nat.{ℕ}
 use mathlib.Core.Bool.{cond, not, _&&_}
 use mathlib.Core.List.{[], _∷_}
 use Rattle.refusal.specs.Refusal.{isAccepted, refusedBy}

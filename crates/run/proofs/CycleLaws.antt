@@ -1,48 +1,56 @@
 -- The cycles of one owner are steps of the run.
 use Prim.Native.Nat.{ℕ, zero, suc, _+_, _-_, _≤_, _<_}
 use mathlib.Core.Path.{_≡_, refl, sym, ap, ap₂, _∙_}
-use mathlib.Core.Bool.{Bool, true, false, cond, not, false≢true}
+use mathlib.Core.Bool.{true, false, cond, not, false≢true}
 use mathlib.Core.Logic.{_⊎_, inl, inr}
 use mathlib.Core.List.{List}
 use native.Mathlib.Omega.{arith}
 use borrow.Author.Tests.{eqb-true, eqb-false, lt-ltb, le-ltb, ltb-true, ltb-false}
-use lib.ListN.{length, getD, set}
+use lib.ListN.{length, getD}
 use lib.Seq.{set-set, set-getD}
 use lib.Dec.{eqb, ltb}
 use Rattle.basics.proofs.Tests.{by-test}
 use Rattle.refusal.specs.declared.Refusal.the-variants.{ClockFull}
-use Rattle.refusal.specs.declared.Verdict.the-variants.{Refused}
 use Rattle.frame.specs.declared.Setup.{Setup}
-use Rattle.channel.specs.declared.Phase.{Phase}
-use Rattle.channel.specs.declared.Phase.the-variants.{Arbitrating, Granted}
+use Rattle.channel.specs.declared.Phase.the-variants.{Granted}
 use Rattle.channel.specs.declared.Asked.{Asked}
 use Rattle.channel.specs.declared.Asked.the-variants.{Never, At}
 use Rattle.channel.specs.declared.Channel.{Channel}
 use Rattle.channel.specs.declared.Request.{Request}
 use Rattle.channel.specs.Channel.{hasRequest, requestOf, withRequest, Shaped}
-use Rattle.channel.specs.Line.{lineRule}
 use Rattle.channel.proofs.RequestLaws.{request-same, request-other, with-shaped}
 use Rattle.sound.specs.Rows.{slaveOf, startOf, isFair}
 use Rattle.sound.specs.Sound.{clockLimit}
-use Rattle.sound.proofs.SoundFacts.{Sound, sound-is}
+use Rattle.sound.proofs.SoundFacts.{sound-is}
 use Rattle.act.specs.declared.Path.{Path}
 use Rattle.act.specs.declared.Ending.{Ending}
 use Rattle.act.specs.declared.Ending.the-variants.{Kept, Released, Marked}
-use Rattle.act.specs.declared.Entry.{Entry}
 use Rattle.act.specs.declared.Entry.the-variants.{Cycle}
-use Rattle.act.specs.Cycle.{pathOf, cycleBytes, restAfter, slotAfter, releasedBy, endingOf, isKept, isLeaving, clocked, freed, endedBy, movedOn, cycleEntry, cycleTurn}
+use Rattle.act.specs.Cycle.{
+  pathOf,
+  restAfter,
+  slotAfter,
+  releasedBy,
+  endingOf,
+  isKept,
+  isLeaving,
+  clocked,
+  endedBy,
+  movedOn,
+  cycleEntry,
+  cycleTurn,
+}
 use Rattle.act.proofs.EndingLaws.{ended-request}
 use Rattle.tally.specs.declared.Tally.{Tally}
 use Rattle.tally.specs.Tally.{addEntry}
-use Rattle.step.specs.declared.Plan.{Plan}
 use Rattle.step.specs.declared.Plan.the-variants as plan
-use Rattle.step.specs.Plan.{timed as inTime, ownerPlan, requestPlan, phasePlan, actPlan}
+use Rattle.step.specs.Plan.{ownerPlan, requestPlan, phasePlan, actPlan}
 use Rattle.step.specs.Step.{Ready, advancedBy, slaveBy, masterBy, movedSlave, movedMaster}
 use Rattle.step.proofs.PlanLaws.{says, planned-roomy, moved-lengths}
 use Rattle.step.proofs.KeepLaws.{restAt, same-slave, same-start, ended-shaped, clocked-shaped}
 use Rattle.step.proofs.QuietLaws.{cycle-quiet}
 use Rattle.run.specs.declared.Tenure.{Tenure}
-use Rattle.run.specs.Run.{World, Out, world, ended, runFrom}
+use Rattle.run.specs.Run.{world, runFrom}
 use Rattle.run.specs.Turns.{
   Running,
   worldOf,

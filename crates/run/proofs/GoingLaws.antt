@@ -25,7 +25,7 @@ use Rattle.step.proofs.PlanLaws.{roomy}
 use Rattle.run.specs.declared.Route.{Route}
 use Rattle.run.specs.Run.{ended, runFrom}
 use Rattle.run.specs.Turns.{worldOf, verdictIf, AreRoutes}
-use Rattle.run.specs.Turns.{Running, toCome, routeOf, noRoute, Routed, Owned, Turnable, rested, turnBy, turnOf}
+use Rattle.run.specs.Turns.{Running, toCome, routeOf, noRoute, Routed, Turnable, rested, turnBy, turnOf}
 use Rattle.run.proofs.TurnLaws.{Turned, grant-turn, rest-turn}
 use Rattle.run.proofs.CycleLaws.{cycles-turn}
 

@@ -1,6 +1,6 @@
 -- One cycle more of an owner, in the form of the loop's needs.
 use Prim.Native.Nat.{ℕ, suc, _+_, _-_, _≤_, _<_}
-use mathlib.Core.Path.{_≡_, refl, sym, ap, _∙_}
+use mathlib.Core.Path.{_≡_, refl, ap, _∙_}
 use mathlib.Core.Bool.{true, false}
 use mathlib.Core.List.{List}
 use native.Mathlib.Omega.{arith}
@@ -14,7 +14,7 @@ use Rattle.act.specs.Cycle.{cycleBytes, restAfter, isKept}
 use Rattle.step.specs.Step.{Roomy, movedSlave, movedMaster}
 use Rattle.run.specs.declared.Tenure.{Tenure}
 use Rattle.run.specs.declared.Route.{Route}
-use Rattle.run.specs.Turns.{Held, heldOf, held, cycled, filled, Routed}
+use Rattle.run.specs.Turns.{heldOf, held, cycled, filled, Routed}
 
 module _ (path : Path) (asked : Asked) (budget : ℕ) (t : Tenure) (slave master : List ℕ) (h : t .done < budget) where
   left-one : budget - t .done ≡ suc (budget - (t .done + 1))

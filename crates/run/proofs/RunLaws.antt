@@ -1,12 +1,11 @@
 -- Laws of a run: one turn of it, on a channel that is ready.
 use Prim.Native.Nat.{ℕ, suc, _+_, _-_, _<_}
-use mathlib.Core.Path.{_≡_, refl, sym, ap, _∙_}
+use mathlib.Core.Path.{_≡_, refl, _∙_}
 use mathlib.Core.List.{List}
 use native.Mathlib.Numerals.{add-one}
 use native.Mathlib.Omega.{arith}
 use lib.ListN.{length}
 use Rattle.refusal.specs.declared.Refusal.{Refusal}
-use Rattle.refusal.specs.declared.Verdict.{Verdict}
 use Rattle.refusal.specs.declared.Verdict.the-variants.{Refused}
 use Rattle.frame.specs.declared.Setup.{Setup}
 use Rattle.channel.specs.declared.Channel.{Channel}
@@ -15,14 +14,12 @@ use Rattle.act.specs.declared.Entry.{Entry}
 use Rattle.tally.specs.declared.Tally.{Tally}
 use Rattle.tally.specs.Tally.{addEntry}
 use Rattle.sound.proofs.SoundFacts.{sound-is, sound-by}
-use Rattle.step.specs.declared.Plan.{Plan}
-use Rattle.step.specs.declared.Plan.the-variants as plan
 use Rattle.step.specs.declared.StepAnswer.the-variants.{Done, Refused as NotDone}
-use Rattle.step.specs.Plan.{actPlan, planOf}
-use Rattle.step.specs.Step.{Advanced, Ready, advancedBy, stepOf, slaveBy, masterBy, slaveAfter, masterAfter}
+use Rattle.step.specs.Plan.{actPlan}
+use Rattle.step.specs.Step.{Ready, advancedBy, stepOf, slaveBy, masterBy, slaveAfter, masterAfter}
 use Rattle.run.specs.Run.{World, world, ended, stepIn, after, runFrom}
-use Rattle.step.proofs.PlanLaws.{plan-ready, refused-still}
-use Rattle.step.proofs.KeepLaws.{step-sound, step-shaped}
+use Rattle.step.proofs.PlanLaws.{plan-ready}
+use Rattle.step.proofs.KeepLaws.{step-sound}
 
 module _ (setup : Setup) (n done : ℕ) (w : World) (h : done < n) where
   pub run-more : (e : Entry) → stepIn setup w .answer ≡ Done e → runFrom setup (n - done) done w ≡ runFrom setup (n - (done + 1)) (done + 1)

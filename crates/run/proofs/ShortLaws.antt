@@ -1,25 +1,25 @@
 -- Why the short ways of a run come to the same: who waits behind the winner, cycles and transfers of whole length, and a few bytes stored one by one.
-use Prim.Native.Nat.{ℕ, zero, suc, _+_, _-_, _*_, _%_, _≤_, _<_, min}
-use mathlib.Core.Path.{_≡_, refl, sym, ap, _∙_}
-use mathlib.Core.Bool.{Bool, true, false, not, _||_, false≢true}
+use Prim.Native.Nat.{ℕ, zero, suc, _+_, _-_, _*_, _%_, _≤_, _<_}
+use mathlib.Core.Path.{_≡_, sym, ap, _∙_}
+use mathlib.Core.Bool.{Bool, true, false, false≢true}
 use mathlib.Core.Logic.{⊎-elim}
 use mathlib.Core.List.{List}
-use native.Mathlib.Nat.{add-zero, suc-add, add-suc, zero-add}
+use native.Mathlib.Nat.{add-zero}
 use native.Mathlib.Numerals.{add-one}
 use native.Mathlib.Omega.{arith}
 use borrow.Author.Tests.{eqb-true, eqb-false}
-use lib.ListN.{length, getD, set, drop, replicate}
+use lib.ListN.{length, getD, set}
 use lib.Seq.{paste, paste-zero, paste-suc, getD-set-same, getD-set-other}
 use lib.Dec.{eqb}
 use Rattle.basics.proofs.Tests.{by-test, same-test, or-left, or-right}
-use Rattle.cycle.specs.Cycle.{isWidth, isPort, narrower, transferLength, countOf, transferCycles, transferTime}
+use Rattle.cycle.specs.Cycle.{narrower, transferLength, countOf, transferTime}
 use Rattle.cycle.proofs.Widths.{Pair, two-one, two-two, four-one, four-two, four-four, paired}
 use Rattle.channel.specs.declared.Phase.the-variants.{Granted}
 use Rattle.frame.specs.declared.Setup.{Setup}
 use Rattle.channel.specs.declared.Channel.{Channel}
 use Rattle.channel.specs.declared.Request.{Request}
 use Rattle.channel.specs.Channel.{requestOf}
-use Rattle.channel.specs.Line.{isInactive, waits, lineActive, winner}
+use Rattle.channel.specs.Line.{waits, lineActive, winner}
 use Rattle.channel.proofs.LineLaws.{waits-is, line-by, line-some, winner-is, winner-lowest}
 use Rattle.run.specs.declared.Route.{Route}
 use Rattle.act.specs.Cycle.{pathOf}

@@ -1,58 +1,50 @@
 -- A turn takes the steps of the run: what is still to come after it is what was to come before it.
-use Prim.Native.Nat.{ℕ, zero, suc, _+_, _-_, _≤_, _<_}
+use Prim.Native.Nat.{ℕ, _+_, _-_, _≤_, _<_}
 use mathlib.Core.Path.{_≡_, refl, sym, ap, _∙_}
-use mathlib.Core.Bool.{Bool, true, false, cond, not, false≢true}
-use mathlib.Core.Logic.{_⊎_, inl, inr, ⊎-elim}
+use mathlib.Core.Bool.{true, false, not}
+use mathlib.Core.Logic.{_⊎_, inl, inr}
 use mathlib.Core.List.{List}
-use native.Mathlib.Nat.{zero-add, suc-add}
 use native.Mathlib.Omega.{arith}
-use borrow.Author.Tests.{eqb-true, eqb-false, lt-ltb, le-ltb, ltb-true, ltb-false}
-use lib.ListN.{length, getD, set}
+use lib.ListN.{length, getD}
 use lib.Dec.{eqb, ltb}
 use Rattle.basics.proofs.Tests.{by-test}
 use Rattle.refusal.specs.declared.Refusal.the-variants.{ClockFull}
 use Rattle.refusal.specs.declared.Verdict.the-variants.{Refused}
 use Rattle.frame.specs.declared.Setup.{Setup}
-use Rattle.channel.specs.declared.Phase.{Phase}
 use Rattle.channel.specs.declared.Phase.the-variants.{Arbitrating, Granted}
 use Rattle.channel.specs.declared.Asked.{Asked}
 use Rattle.channel.specs.declared.Asked.the-variants.{Never, At}
 use Rattle.channel.specs.declared.Channel.{Channel}
 use Rattle.channel.specs.declared.Request.{Request}
-use Rattle.channel.specs.Channel.{hasRequest, requestOf, withRequest, Shaped}
-use Rattle.channel.specs.Line.{cleared, timed, lineRule, line, winner}
-use Rattle.sound.specs.Rows.{slaveOf}
+use Rattle.channel.specs.Channel.{hasRequest, requestOf, Shaped}
+use Rattle.channel.specs.Line.{cleared, timed, winner}
 use Rattle.sound.specs.Sound.{clockLimit}
 use Rattle.sound.proofs.SoundFacts.{Sound, sound-is}
 use Rattle.act.specs.declared.Entry.{Entry}
-use Rattle.act.specs.declared.Entry.the-variants.{Idle, Grant, Cycle, Release}
+use Rattle.act.specs.declared.Entry.the-variants.{Idle, Grant, Release}
 use Rattle.act.specs.Cycle.{pathOf, freed}
 use Rattle.act.specs.Turn.{arbitrationTime, granted, grantTurn, holdOf, leaveTurn}
 use Rattle.tally.specs.declared.Tally.{Tally}
 use Rattle.tally.specs.Tally.{addEntry}
 use Rattle.step.specs.declared.Plan.{Plan}
 use Rattle.step.specs.declared.Plan.the-variants as plan
-use Rattle.step.specs.declared.StepAnswer.the-variants.{Done, Refused as NotDone}
-use Rattle.step.specs.Plan.{timed as inTime, ownerPlan, requestPlan, phasePlan, actPlan}
+use Rattle.step.specs.declared.StepAnswer.the-variants.{Done}
+use Rattle.step.specs.Plan.{ownerPlan, requestPlan, phasePlan, actPlan}
 use Rattle.step.specs.Step.{Ready, advancedBy, slaveBy, masterBy}
 use Rattle.step.proofs.KeepLaws.{step-shaped}
 use Rattle.step.proofs.QuietLaws.{leave-quiet}
-use Rattle.run.specs.declared.State.{State}
-use Rattle.run.specs.Run.{World, Out, world, ended, runFrom}
+use Rattle.run.specs.Run.{world, ended, runFrom}
 use Rattle.run.specs.Turns.{
   Running,
-  runningOf,
   stateOf,
   withState,
   worldOf,
   toCome,
   marksAfter,
   filledState,
-  grantState,
   arbitrated,
   arbitratedMarks,
   restBy,
-  rested,
 }
 use Rattle.run.proofs.RunLaws.{run-more, run-stop, answer-ready, after-ready, still-ready}
 

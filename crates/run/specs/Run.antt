@@ -9,7 +9,6 @@ use Rattle.refusal.specs.declared.Verdict.{Verdict}
 use Rattle.refusal.specs.declared.Verdict.the-variants.{Accepted, Refused}
 use Rattle.frame.specs.declared.Setup.{Setup}
 use Rattle.channel.specs.declared.Channel.{Channel}
-use Rattle.act.specs.declared.Entry.{Entry}
 use Rattle.tally.specs.declared.Tally.{Tally}
 use Rattle.step.specs.declared.StepAnswer.{StepAnswer}
 use Rattle.step.specs.declared.StepAnswer.the-variants.{Done, Refused as NotDone}

@@ -16,14 +16,12 @@ use Rattle.channel.specs.declared.Phase.the-variants.{Arbitrating, Granted}
 use Rattle.channel.specs.declared.Asked.{Asked}
 use Rattle.channel.specs.declared.Asked.the-variants.{Never, At}
 use Rattle.channel.specs.declared.Channel.{Channel}
-use Rattle.channel.specs.declared.Request.{Request}
 use Rattle.channel.specs.Channel.{hasRequest, requestOf, withRequest}
-use Rattle.channel.specs.Line.{isInactive, waits, lineActive, askedNow, lineRule, winner}
+use Rattle.channel.specs.Line.{isInactive, waits, lineActive, askedNow, winner}
 use Rattle.sound.specs.Sound.{clockLimit}
 use Rattle.act.specs.declared.Path.{Path}
 use Rattle.act.specs.declared.Hold.the-variants.{After}
-use Rattle.act.specs.declared.Ending.{Ending}
-use Rattle.act.specs.declared.Ending.the-variants.{Kept, Released, Marked}
+use Rattle.act.specs.declared.Ending.the-variants.{Kept}
 use Rattle.act.specs.Cycle.{pathOf, cycleBytes, restAfter, slotAfter, endingOf, isKept, clocked, endedBy}
 use Rattle.act.specs.Turn.{arbitrationTime}
 use Rattle.tally.specs.declared.Tally.{Tally}

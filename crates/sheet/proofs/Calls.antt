@@ -21,7 +21,6 @@ use Rattle.sheet.specs.declared.Judged.{Judged}
 use Rattle.sheet.specs.declared.Judged.the-variants.{Good, Fault}
 use Rattle.sheet.specs.declared.SheetAnswer.the-variants.{Done, Refused}
 use Rattle.sheet.specs.Sheet.{
-  Source,
   listAt,
   followed,
   numbers,
@@ -38,8 +37,8 @@ use Rattle.sheet.specs.Sheet.{
 use Rattle.number.proofs.Laws.{no-number}
 use Rattle.sheet.proofs.Parts.{no-good}
 use Rattle.sheet.proofs.Moved.{movedTo}
-use Rattle.sheet.proofs.Runs.{Run, Tells, sheet-tells}
-use Rattle.sheet.proofs.Runs.Tells.{good, fault}
+use Rattle.sheet.proofs.Runs.{Tells, sheet-tells}
+use Rattle.sheet.proofs.Runs.Tells.{fault}
 use Rattle.sheet.proofs.RoundTrip.{Numbers, place, judged-alike, list-back, bytes-back}
 
 -- a result was stored: the judgement is good, there is room, and the slice holds the result before what it held there

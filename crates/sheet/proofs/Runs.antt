@@ -31,7 +31,6 @@ use Rattle.sheet.specs.Sheet.{
   event,
   events,
   countedEvents,
-  ended,
   body,
   sheet,
 }

@@ -2,7 +2,6 @@
 // write fails nothing more is run or written.
 use crate::streams::no_room;
 use crate::streams::write_first;
-use act::Entry;
 use channel::Channel;
 use frame::Setup;
 use post::Order;

@@ -1,18 +1,15 @@
 -- What an accepted request has, as facts, and back; and that its transfers fit the allowance.
-use Prim.Native.Nat.{ℕ, _+_, _*_, _≤_, _<_}
-use mathlib.Core.Path.{_≡_, refl, sym, ap, _∙_}
-use mathlib.Core.Bool.{Bool, true, false, cond, not, _&&_, and-false, false≢true}
-use native.Mathlib.Nat.{le-trans}
+use Prim.Native.Nat.{ℕ, _+_, _*_, _≤_}
+use mathlib.Core.Path.{_≡_, refl}
+use mathlib.Core.Bool.{true, and-false, false≢true}
 use native.Mathlib.Omega.{arith}
-use borrow.Author.Tests.{leb-true, le-leb, ltb-false, le-ltb, not-true, not-false}
-use lib.Dec.{leb, ltb, lit≤}
+use borrow.Author.Tests.{leb-true, le-leb, ltb-false, le-ltb}
+use lib.Dec.{leb}
 use Rattle.refusal.specs.declared.Refusal.{Refusal}
-use Rattle.refusal.specs.declared.Verdict.{Verdict}
 use Rattle.refusal.specs.declared.Verdict.the-variants.{Accepted, Refused}
-use Rattle.basics.proofs.Tests.{by-test, need, and-left, and-right}
-use Rattle.cycle.specs.Cycle.{isLength, isWidth, isPort}
+use Rattle.basics.proofs.Tests.{by-test, need}
+use Rattle.cycle.specs.Cycle.{isLength}
 use Rattle.cycle.proofs.TransferLaws.{time-most}
-use Rattle.frame.specs.declared.LevelRow.{LevelRow}
 use Rattle.frame.specs.declared.SlaveRow.{SlaveRow}
 use Rattle.frame.specs.declared.LevelRows.{LevelRows}
 use Rattle.frame.specs.declared.Setup.{Setup}
@@ -21,7 +18,7 @@ use Rattle.frame.specs.declared.FoundLevel.the-variants.{Missing, Row}
 use Rattle.frame.specs.declared.FoundSlave.{FoundSlave}
 use Rattle.frame.specs.declared.FoundSlave.the-variants.{Missing as NoSlave, Row as Slave}
 use Rattle.frame.specs.Frame.{isFramed}
-use Rattle.frame.specs.Find.{levelRow, slaveRow, slaveStoreLength}
+use Rattle.frame.specs.Find.{levelRow}
 use Rattle.frame.proofs.FrameLaws.{LevelFacts, SlaveFacts, found-level, found-small, framed-levels, framed-slaves}
 use Rattle.frame.proofs.SlaveLaws.{Found, found-slave}
 use Rattle.channel.specs.declared.Request.{Request}

@@ -1,12 +1,12 @@
 -- The line rule turns a settled channel into a sound one, and changes nothing on a sound one.
-use Prim.Native.Nat.{ℕ, _+_, _≤_, _<_}
+use Prim.Native.Nat.{ℕ, _+_, _<_}
 use mathlib.Core.Path.{_≡_, refl, sym, ap, _∙_}
 use mathlib.Core.Bool.{Bool, true, false, false≢true}
 use mathlib.Core.Logic.{_⊎_, inl, inr, ⊎-elim}
 use native.Mathlib.Omega.{arith}
 use borrow.Author.Tests.{le-leb, eq-eqb}
-use lib.ListN.{length, getD, replicate, getD-replicate}
-use lib.Dec.{eqb, leb}
+use lib.ListN.{getD, replicate, getD-replicate}
+use lib.Dec.{eqb}
 use Rattle.basics.proofs.Tests.{by-test}
 use Rattle.frame.specs.declared.Setup.{Setup}
 use Rattle.frame.specs.Frame.{isFramed}
@@ -15,12 +15,12 @@ use Rattle.channel.specs.declared.Phase.the-variants.{Arbitrating, Granted}
 use Rattle.channel.specs.declared.Asked.{Asked}
 use Rattle.channel.specs.declared.Asked.the-variants.{Never, At}
 use Rattle.channel.specs.declared.Channel.{Channel}
-use Rattle.channel.specs.Channel.{hasRequest, requestOf, Shaped}
+use Rattle.channel.specs.Channel.{requestOf, Shaped}
 use Rattle.channel.specs.Line.{isInactive, line, cleared, askedNow, timed, lineRule}
 use Rattle.channel.proofs.LineLaws.{cleared-on, no-marks}
 use Rattle.sound.specs.Request.{transferOf}
 use Rattle.sound.specs.Sound.{allowance, isWithin, isInTime}
-use Rattle.sound.proofs.SoundFacts.{Grant, InTime, Settled, Sound}
+use Rattle.sound.proofs.SoundFacts.{Settled, Sound}
 use Rattle.sound.proofs.RequestFacts.{fits-is, transfer-fits}
 
 module _ (setup : Setup) (ch : Channel) where

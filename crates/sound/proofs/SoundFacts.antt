@@ -2,7 +2,7 @@
 -- `Settled` is what an act of the channel has to bring about by itself; what the line rule then settles completes it to `Sound`.
 use Prim.Native.Nat.{ℕ, _≤_, _<_}
 use mathlib.Core.Path.{_≡_, refl, sym, ap, ap₂, _∙_}
-use mathlib.Core.Bool.{Bool, true, false, cond, not, _&&_, _||_, and-false, false≢true}
+use mathlib.Core.Bool.{Bool, true, false, not, _||_, and-false, false≢true}
 use mathlib.Core.Logic.{_⊎_, inl, inr, ⊎-elim}
 use native.Mathlib.Omega.{arith}
 use borrow.Author.Tests.{leb-true, le-leb, eqb-true, eq-eqb, not-true, not-false}
@@ -11,7 +11,6 @@ use lib.ListN.{getD}
 use Rattle.refusal.specs.Refusal.{isAccepted}
 use Rattle.refusal.specs.declared.Verdict.{Verdict}
 use Rattle.refusal.specs.declared.Verdict.the-variants.{Accepted, Refused}
-use Rattle.basics.specs.Scan.{allBelow}
 use Rattle.basics.proofs.ScanLaws.{all-at, all-intro}
 use Rattle.basics.proofs.Tests.{by-test, need, and-left, and-right, or-cases, or-left, or-right}
 use Rattle.frame.specs.declared.LevelRows.{LevelRows}

@@ -2,7 +2,6 @@
 // 3, 4 and 5.
 use channel::Asked;
 use channel::Channel;
-use channel::Judged;
 use channel::Phase;
 use channel::Request;
 use frame::FoundLevel;

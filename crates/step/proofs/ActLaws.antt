@@ -1,5 +1,5 @@
 -- The step as the program takes it, in place and mostly without the line rule, is the step of the definitions.
-use Prim.Native.Nat.{ℕ, _+_, _-_, _≤_, _<_}
+use Prim.Native.Nat.{ℕ, _+_, _<_}
 use mathlib.Core.Path.{_≡_, refl, sym, ap, _∙_}
 use mathlib.Core.Bool.{Bool, true, false, cond}
 use mathlib.Core.List.{List}
@@ -11,21 +11,20 @@ use lib.Dec.{eqb, ltb}
 use Rattle.basics.proofs.Tests.{by-test}
 use Rattle.refusal.specs.declared.Refusal.the-variants.{ClockFull}
 use Rattle.frame.specs.declared.Setup.{Setup}
-use Rattle.channel.specs.declared.Phase.{Phase}
 use Rattle.channel.specs.declared.Phase.the-variants.{Arbitrating, Granted}
 use Rattle.channel.specs.declared.Asked.{Asked}
 use Rattle.channel.specs.declared.Asked.the-variants.{Never, At}
 use Rattle.channel.specs.declared.Channel.{Channel}
 use Rattle.channel.specs.declared.Request.{Request}
 use Rattle.channel.specs.Channel.{requestOf, withRequest, Shaped}
-use Rattle.channel.specs.Line.{isInactive, cleared, timed, winner}
+use Rattle.channel.specs.Line.{isInactive, cleared, timed}
 use Rattle.sound.specs.Rows.{slaveOf}
 use Rattle.sound.specs.Sound.{clockLimit}
 use Rattle.sound.proofs.SoundFacts.{Sound, sound-is}
 use Rattle.act.specs.declared.Path.{Path}
 use Rattle.act.specs.declared.Ending.{Ending}
 use Rattle.act.specs.declared.Ending.the-variants.{Kept, Released, Marked}
-use Rattle.act.specs.Cycle.{pathOf, cycleBytes, restAfter, slotAfter, endingOf, isMarked, clocked, freed, endedBy, movedOn, cycleEntry, cycleTurn}
+use Rattle.act.specs.Cycle.{pathOf, restAfter, slotAfter, endingOf, isMarked, clocked, freed, endedBy, movedOn, cycleEntry, cycleTurn}
 use Rattle.act.specs.Turn.{arbitrationTime, granted, grantTurn, leaveTurn}
 use Rattle.tally.specs.declared.Tally.{Tally}
 use Rattle.step.specs.declared.Standing.{Standing}
@@ -46,7 +45,6 @@ use Rattle.step.specs.Acts.{
   restActed,
   cycleActed,
   endingAt,
-  cycleDone,
   cycleMade,
 }
 use Rattle.step.proofs.PlanLaws.{roomy}

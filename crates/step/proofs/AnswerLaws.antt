@@ -1,6 +1,6 @@
 -- No two plans share their numbers, and no two answers. Assumes nothing.
 use mathlib.Core.Path.{_≡_, refl, sym, ap}
-use lib.ListN.{length, drop}
+use lib.ListN.{drop}
 use Rattle.basics.proofs.SameLaws.{at, apart}
 use Rattle.refusal.proofs.NumberLaws.{one-number, not-zero}
 use Rattle.act.proofs.EntryLaws.{one-entry}

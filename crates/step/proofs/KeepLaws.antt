@@ -1,20 +1,17 @@
 -- Each act takes a sound channel to a settled one, and the line rule makes it sound: a step keeps soundness.
-use Prim.Native.Nat.{ℕ, _+_, _-_, _*_, _≤_, _<_}
+use Prim.Native.Nat.{ℕ, _+_, _≤_, _<_}
 use mathlib.Core.Path.{_≡_, refl, sym, ap, ap₂, _∙_}
 use mathlib.Core.Bool.{Bool, true, false, not, and-false, false≢true}
-use mathlib.Core.Logic.{_⊎_, inl, inr, ⊎-elim}
+use mathlib.Core.Logic.{inl, inr, ⊎-elim}
 use mathlib.Core.List.{List}
 use native.Mathlib.Omega.{arith}
-use borrow.Author.Tests.{leb-true, le-leb, eqb-true, eqb-false, eq-eqb, ne-eqb, not-true, not-false}
-use lib.Dec.{eqb, leb}
-use lib.ListN.{getD, set, length, length-set}
+use borrow.Author.Tests.{leb-true, le-leb, eqb-true, eqb-false, not-true, not-false}
+use lib.Dec.{eqb}
+use lib.ListN.{length, length-set}
 use lib.Seq.{getD-set-other}
-use Rattle.basics.specs.Scan.{anyBelow}
 use Rattle.basics.proofs.ScanLaws.{any-ext}
-use Rattle.basics.proofs.Tests.{by-test, or-none, or-left, or-right}
-use Rattle.cycle.specs.Cycle.{narrower, cycleLength, isTransferEnd, transferTime}
-use Rattle.cycle.proofs.CountLaws.{length-some}
-use Rattle.cycle.proofs.Widths.{port-some, width-some}
+use Rattle.basics.proofs.Tests.{by-test, or-none}
+use Rattle.cycle.specs.Cycle.{isTransferEnd, transferTime}
 use Rattle.cycle.proofs.TransferLaws.{time-left}
 use Rattle.frame.specs.Frame.{isFramed}
 use Rattle.frame.specs.declared.Setup.{Setup}
@@ -30,7 +27,7 @@ use Rattle.channel.specs.declared.Asked.the-variants.{Never, At}
 use Rattle.channel.specs.declared.Channel.{Channel}
 use Rattle.channel.specs.declared.Request.{Request}
 use Rattle.channel.specs.Channel.{ownerOf, hasRequest, requestOf, withRequest, Shaped}
-use Rattle.channel.specs.Line.{isInactive, waits, drives, lineActive, line, lineRule, winner}
+use Rattle.channel.specs.Line.{isInactive, drives, lineActive, line, winner}
 use Rattle.channel.proofs.LineLaws.{waits-is, winner-is, none-waits}
 use Rattle.channel.proofs.RequestLaws.{request-same, request-other, with-shaped, rule-shaped}
 use Rattle.sound.specs.Rows.{isPresent, levelOf, slaveOr, startOr, slaveOf, startOf, hasBurst, isFair, hasLinger}
@@ -40,12 +37,10 @@ use Rattle.sound.proofs.SoundFacts.{Grant as MayOwn, InTime, Settled, Sound}
 use Rattle.sound.proofs.RuleLaws.{rule-sound}
 use Rattle.sound.proofs.RequestFacts.{Fits, fits-is, fits-by, level-facts-of, slave-facts-of}
 use Rattle.act.specs.declared.Path.{Path}
-use Rattle.act.specs.declared.Hold.{Hold}
 use Rattle.act.specs.declared.Ending.{Ending}
 use Rattle.act.specs.declared.Ending.the-variants.{Kept, Released, Marked}
 use Rattle.act.specs.Cycle.{
   pathOf,
-  cycleBytes,
   restAfter,
   noRequest,
   slotAfter,

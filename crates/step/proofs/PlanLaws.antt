@@ -1,14 +1,13 @@
 -- What each plan says of the channel, and that a planned cycle has all the room that it needs.
-use Prim.Native.Nat.{ℕ, _+_, _-_, _≤_, _<_}
-use mathlib.Core.Path.{_≡_, refl, sym, ap, _∙_}
-use mathlib.Core.Bool.{Bool, true, false, _&&_}
+use Prim.Native.Nat.{ℕ, _+_, _-_, _≤_}
+use mathlib.Core.Path.{_≡_, refl, ap}
+use mathlib.Core.Bool.{true, false, _&&_}
 use mathlib.Core.List.{List}
-use native.Mathlib.Nat.{le-trans}
 use native.Mathlib.Omega.{arith}
 use borrow.Author.Tests.{ltb-false, eqb-true, eq-eqb}
 use lib.Dec.{eqb, ltb}
-use lib.ListN.{getD, length, drop, length-drop}
-use lib.Seq.{paste, length-paste}
+use lib.ListN.{getD, length, length-drop}
+use lib.Seq.{length-paste}
 use Rattle.refusal.specs.declared.Refusal.{Refusal}
 use Rattle.refusal.specs.declared.Refusal.the-variants.{ClockFull}
 use Rattle.refusal.specs.declared.Verdict.the-variants.{Accepted, Refused as NotReady}
@@ -22,12 +21,12 @@ use Rattle.channel.specs.declared.Phase.{Phase}
 use Rattle.channel.specs.declared.Phase.the-variants.{Arbitrating, Granted}
 use Rattle.channel.specs.declared.Channel.{Channel}
 use Rattle.channel.specs.declared.Request.{Request}
-use Rattle.channel.specs.Channel.{hasRequest, requestOf}
+use Rattle.channel.specs.Channel.{requestOf}
 use Rattle.channel.specs.Line.{line, winner}
-use Rattle.sound.specs.Rows.{slaveOf, startOf}
+use Rattle.sound.specs.Rows.{slaveOf}
 use Rattle.sound.specs.Sound.{clockLimit, isSound}
 use Rattle.sound.proofs.SoundFacts.{sound-is}
-use Rattle.sound.proofs.RequestFacts.{Fits, fits-is, slave-facts-of}
+use Rattle.sound.proofs.RequestFacts.{fits-is, slave-facts-of}
 use Rattle.act.specs.declared.Path.{Path}
 use Rattle.act.specs.Cycle.{pathOf, cycleBytes}
 use Rattle.act.specs.Turn.{arbitrationTime}

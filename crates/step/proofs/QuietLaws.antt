@@ -4,24 +4,22 @@ use mathlib.Core.Path.{_≡_, refl, sym, ap, _∙_}
 use mathlib.Core.Bool.{Bool, true, false, false≢true}
 use mathlib.Core.List.{List}
 use native.Mathlib.Omega.{arith}
-use lib.ListN.{getD, set}
 use lib.Seq.{getD-set-other}
 use Rattle.basics.proofs.Tests.{by-test}
 use Rattle.frame.specs.Frame.{isFramed}
 use Rattle.frame.specs.declared.Setup.{Setup}
-use Rattle.channel.specs.declared.Phase.{Phase}
 use Rattle.channel.specs.declared.Phase.the-variants.{Arbitrating, Granted}
 use Rattle.channel.specs.declared.Asked.{Asked}
 use Rattle.channel.specs.declared.Asked.the-variants.{Never, At}
 use Rattle.channel.specs.declared.Channel.{Channel}
 use Rattle.channel.specs.Channel.{ownerOf, hasRequest, requestOf, withRequest, Shaped}
 use Rattle.channel.specs.Line.{isInactive, lineActive, line, lineRule}
-use Rattle.channel.proofs.LineLaws.{Drives, line-some, line-by}
+use Rattle.channel.proofs.LineLaws.{line-some, line-by}
 use Rattle.sound.specs.Rows.{isFair, slaveOf}
 use Rattle.sound.specs.Sound.{clockLimit}
 use Rattle.sound.proofs.SoundFacts.{Sound}
 use Rattle.sound.proofs.RuleLaws.{rule-same}
-use Rattle.act.specs.Cycle.{pathOf, releasedBy, endingOf, isLeaving, clocked, freed, markedAt, endedBy, movedOn}
+use Rattle.act.specs.Cycle.{releasedBy, endingOf, isLeaving, clocked, freed, markedAt, endedBy, movedOn}
 use Rattle.step.proofs.KeepLaws.{
   pathAt,
   restAt,

@@ -1,5 +1,5 @@
 use Rattle.act.specs.Turn.{arbitrationTime}
-use mathlib.Core.Path.{_≡_, refl, sym, ap, _∙_}
+use mathlib.Core.Path.{refl}
 use Rattle.act.proofs.arbitration_time.Statement.{statement}
 use Rattle.act.proofs.arbitration_time.Tie as tie
 

@@ -1,6 +1,6 @@
 use Rattle.act.specs.Cycle.{endingOf}
 use borrow.Author.Needs.{needs}
-use mathlib.Core.Path.{_≡_, refl, sym, ap, _∙_}
+use mathlib.Core.Path.{sym, _∙_}
 use Rattle.act.proofs.ending_of.Statement.{statement}
 use Rattle.act.proofs.ending_of.Tie as tie
 

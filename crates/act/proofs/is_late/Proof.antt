@@ -1,6 +1,5 @@
 use Rattle.act.specs.Cycle.{isLate}
 use borrow.Author.Needs.{needs}
-use mathlib.Core.Path.{_≡_, refl, sym, ap, _∙_}
 use Rattle.act.proofs.is_late.Statement.{statement}
 use Rattle.act.proofs.is_late.Tie as tie
 

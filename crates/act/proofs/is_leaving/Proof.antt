@@ -1,6 +1,5 @@
 use Rattle.act.specs.Cycle.{isLeaving}
 use borrow.Author.Needs.{needs}
-use mathlib.Core.Path.{_≡_, refl, sym, ap, _∙_}
 use Rattle.act.proofs.is_leaving.Statement.{statement}
 use Rattle.act.proofs.is_leaving.Tie as tie
 

@@ -1,7 +1,7 @@
 use Rattle.act.specs.Cycle.{pathOf}
-use Rattle.sound.specs.Rows.{slaveOf, slaveOr, startOf, startOr}
+use Rattle.sound.specs.Rows.{slaveOf, startOf}
 use borrow.Author.Needs.{needs}
-use mathlib.Core.Path.{_≡_, refl, sym, ap, _∙_}
+use mathlib.Core.Path.{sym, _∙_}
 use Rattle.act.proofs.path_of.Statement.{statement}
 use Rattle.act.proofs.path_of.Tie as tie
 

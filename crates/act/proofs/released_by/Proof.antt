@@ -1,5 +1,5 @@
 use borrow.Author.Needs.{needs}
-use mathlib.Core.Path.{_≡_, refl, sym, ap, _∙_}
+use mathlib.Core.Path.{sym, _∙_}
 use Rattle.act.proofs.released_by.Statement.{statement}
 use Rattle.act.proofs.released_by.Tie as tie
 

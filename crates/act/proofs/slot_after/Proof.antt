@@ -1,6 +1,5 @@
 use Rattle.act.specs.Cycle.{slotAfter}
 use borrow.Author.Tests.{eq-eqb, ne-eqb}
-use mathlib.Core.Path.{_≡_, refl, sym, ap, _∙_}
 use Rattle.act.proofs.slot_after.Statement.{statement}
 use Rattle.act.proofs.slot_after.Tie as tie
 

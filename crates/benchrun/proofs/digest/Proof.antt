@@ -1,5 +1,5 @@
-use Prim.Native.Nat.{ℕ, _+_, _-_, _*_, _≤_, _<_}
-use lib.ListN.{length, length-set}
+use Prim.Native.Nat.{_-_, _<_}
+use lib.ListN.{length}
 use native.Mathlib.Omega.{arith}
 use Rattle.benchrun.proofs.digest.Statement.{statement}
 use Rattle.benchrun.proofs.digest.Tie as tie

@@ -1,4 +1,3 @@
-use Prim.Native.Nat.{ℕ, _+_, _-_, _*_, _≤_, _<_}
 use native.Mathlib.Omega.{arith}
 use Rattle.benchrun.proofs.number_of.Statement.{statement}
 use Rattle.benchrun.proofs.number_of.Tie as tie

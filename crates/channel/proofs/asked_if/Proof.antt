@@ -1,4 +1,3 @@
-use mathlib.Core.Path.{_≡_, refl, sym, ap, _∙_}
 use borrow.Author.Needs.{needs}
 use Rattle.channel.proofs.asked_if.Statement.{statement}
 use Rattle.channel.proofs.asked_if.Tie as tie

@@ -1,6 +1,6 @@
 use Rattle.channel.specs.Line.{cleared}
 use borrow.Author.Needs.{needs}
-use mathlib.Core.Path.{_≡_, refl, sym, ap, _∙_}
+use mathlib.Core.Path.{refl, sym, _∙_}
 use Rattle.channel.proofs.clear_marks.Statement.{statement}
 use Rattle.channel.proofs.clear_marks.Tie as tie
 

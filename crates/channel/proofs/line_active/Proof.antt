@@ -1,10 +1,10 @@
-use Prim.Native.Nat.{ℕ, _+_, _-_, _*_, _≤_, _<_}
+use Prim.Native.Nat.{_-_, _≤_}
 use Rattle.basics.proofs.ScanLaws.{any-hit, any-more}
 use Rattle.basics.specs.Scan.{anyBelow}
 use Rattle.channel.specs.Line.{drives, lineActive}
 use borrow.Author.Needs.{needs}
-use mathlib.Core.Bool.{true, false}
-use mathlib.Core.Path.{_≡_, refl, sym, ap, _∙_}
+use mathlib.Core.Bool.{false}
+use mathlib.Core.Path.{_≡_, refl, sym}
 use native.Mathlib.Omega.{arith}
 use Rattle.channel.proofs.line_active.Statement.{statement}
 use Rattle.channel.proofs.line_active.Tie as tie

@@ -1,6 +1,4 @@
-use Rattle.channel.specs.Line.{timed, cleared}
 use borrow.Author.Needs.{needs}
-use mathlib.Core.Path.{_≡_, refl, sym, ap, _∙_}
 use Rattle.channel.proofs.line_rule.Statement.{statement}
 use Rattle.channel.proofs.line_rule.Tie as tie
 

@@ -1,7 +1,7 @@
 use Rattle.channel.proofs.LineLaws.{no-place}
 use Rattle.channel.specs.Channel.{Shaped, withRequest}
 use borrow.Author.Needs.{needs}
-use mathlib.Core.Path.{_≡_, refl, sym, ap, _∙_}
+use mathlib.Core.Path.{refl, sym}
 use native.Mathlib.Omega.{arith}
 use Rattle.channel.proofs.put_request.Statement.{statement}
 use Rattle.channel.proofs.put_request.Tie as tie

@@ -1,7 +1,7 @@
 use Rattle.channel.proofs.LineLaws.{no-request}
 use Rattle.channel.specs.Channel.{Shaped}
 use borrow.Author.Needs.{needs}
-use mathlib.Core.Path.{_≡_, refl, sym, ap, _∙_}
+use mathlib.Core.Path.{sym}
 use native.Mathlib.Omega.{arith}
 use Rattle.channel.proofs.request_of.Statement.{statement}
 use Rattle.channel.proofs.request_of.Tie as tie

@@ -1,6 +1,5 @@
 use Rattle.channel.specs.Line.{timed}
 use borrow.Author.Needs.{needs}
-use mathlib.Core.Path.{_≡_, refl, sym, ap, _∙_}
 use Rattle.channel.proofs.set_asked.Statement.{statement}
 use Rattle.channel.proofs.set_asked.Tie as tie
 

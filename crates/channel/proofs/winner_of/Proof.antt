@@ -1,8 +1,7 @@
-use Prim.Native.Nat.{ℕ, _+_, _-_, _*_, _≤_, _<_}
+use Prim.Native.Nat.{ℕ, _-_, _≤_}
 use Rattle.basics.proofs.ScanLaws.{first-hit, first-miss, first-none}
 use Rattle.basics.specs.Scan.{firstFrom}
 use Rattle.channel.specs.Line.{waits, winner}
-use mathlib.Core.Bool.{true, false}
 use mathlib.Core.Path.{_≡_, refl, sym, ap, _∙_}
 use native.Mathlib.Omega.{arith}
 use Rattle.channel.proofs.winner_of.Statement.{statement}

@@ -1,14 +1,13 @@
 -- The digits, written by recursion; the measure is `left`.
-use Prim.Native.Nat.{ℕ, _<_, _-_, _+_, _*_, _/_, _%_, _≤_}
-use mathlib.Core.Path.{_≡_, sym, ap, _∙_}
+use Prim.Native.Nat.{ℕ, _<_, _-_, _+_, _/_, _%_, _≤_}
+use mathlib.Core.Path.{sym, ap}
 use mathlib.Core.List.{[], _∷_}
 use native.Mathlib.Omega.{arith}
-use borrow.Author.Needs.{needs}
 use borrow.Fn.Kinds.{In}
 use borrow.Fn.PlainCycle.{Measures, is, falls, and}
 use denote.Ref.{now}
-use lib.ListN.{length, set, length-set}
-use lib.Seq.{sets, length-sets}
+use lib.ListN.{length, length-set}
+use lib.Seq.{sets}
 use Rattle.logline.specs.Text.{digits}
 use Rattle.logline.proofs.TextLaws.{digits-zero, digits-last, digits-more, size-more, sets-append}
 use Rattle.logline.proofs.put_digits.Reads as g

@@ -1,7 +1,5 @@
 use Rattle.act.specs.Entry.{cycleFields}
-use Rattle.logline.specs.Text.{past, written}
 use borrow.Author.Needs.{needs}
-use mathlib.Core.Path.{_≡_, refl, sym, ap, _∙_}
 use Rattle.logline.proofs.put_cycle.Statement.{statement}
 use Rattle.logline.proofs.put_cycle.Tie as tie
 

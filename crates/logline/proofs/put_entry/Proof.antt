@@ -1,5 +1,4 @@
 use borrow.Author.Needs.{needs}
-use mathlib.Core.Path.{_≡_, refl, sym, ap, _∙_}
 use Rattle.logline.proofs.put_entry.Statement.{statement}
 use Rattle.logline.proofs.put_entry.Tie as tie
 

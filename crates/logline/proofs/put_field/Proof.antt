@@ -1,10 +1,10 @@
-use Prim.Native.Nat.{ℕ, _+_, _-_, _*_, _≤_, _<_}
+use Prim.Native.Nat.{ℕ}
 use Rattle.logline.proofs.TextLaws.{digits-most}
 use Rattle.logline.specs.Text.{digits}
 use borrow.Author.Needs.{needs}
 use lib.ListN.{set, length-set}
 use lib.Seq.{sets}
-use mathlib.Core.Path.{_≡_, refl, sym, ap, _∙_}
+use mathlib.Core.Path.{ap, _∙_}
 use native.Mathlib.Numerals.{add-one}
 use native.Mathlib.Omega.{arith}
 use Rattle.logline.proofs.put_field.Statement.{statement}

@@ -1,4 +1,4 @@
-use Prim.Native.Nat.{ℕ, _+_, _-_, _*_, _≤_, _<_}
+use Prim.Native.Nat.{ℕ, _+_, _-_, _*_, _≤_}
 use Rattle.logline.proofs.TextLaws.{digits-most, fields-more, fields-none, write-more}
 use Rattle.logline.specs.Text.{digits, field, fieldsFrom, past, written}
 use borrow.Author.Needs.{needs}

@@ -1,6 +1,5 @@
 use Rattle.post.specs.Post.{postOf}
 use borrow.Author.Needs.{needs}
-use mathlib.Core.Path.{_≡_, refl, sym, ap, _∙_}
 use Rattle.post.proofs.post.Statement.{statement}
 use Rattle.post.proofs.post.Tie as tie
 

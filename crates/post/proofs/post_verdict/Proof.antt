@@ -1,8 +1,8 @@
 use Rattle.channel.specs.declared.Request.{Request}
 use Rattle.post.specs.Post.{postVerdict}
 use borrow.Author.Needs.{needs}
-use borrow.Author.Tests.{not-true, not-false, eq-eqb, ne-eqb}
-use mathlib.Core.Path.{_≡_, refl, sym, ap, _∙_}
+use borrow.Author.Tests.{eq-eqb, ne-eqb}
+use mathlib.Core.Path.{ap}
 use Rattle.post.proofs.post_verdict.Statement.{statement}
 use Rattle.post.proofs.post_verdict.Tie as tie
 

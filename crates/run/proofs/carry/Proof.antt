@@ -1,4 +1,3 @@
-use mathlib.Core.Path.{_≡_, refl, sym, ap, _∙_}
 use borrow.Author.Tests.{eq-eqb, ne-eqb}
 use Rattle.step.specs.Step.{movedSlave, movedMaster, placeFor}
 use borrow.Author.Needs.{needs}

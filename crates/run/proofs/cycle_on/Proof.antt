@@ -1,4 +1,3 @@
-use mathlib.Core.Path.{_≡_, refl, sym, ap, _∙_}
 use native.Mathlib.Omega.{arith}
 use Rattle.act.specs.Cycle.{restAfter}
 use Rattle.run.specs.Turns.{cycled}

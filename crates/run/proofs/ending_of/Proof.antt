@@ -1,4 +1,3 @@
-use mathlib.Core.Path.{_≡_, refl, sym, ap, _∙_}
 use Rattle.act.specs.Cycle.{endingOf}
 use borrow.Author.Needs.{needs}
 use Rattle.run.proofs.ending_of.Statement.{statement}

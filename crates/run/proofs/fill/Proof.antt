@@ -1,4 +1,4 @@
-use mathlib.Core.Path.{_≡_, refl, sym, ap, _∙_}
+use mathlib.Core.Path.{refl}
 use Rattle.run.specs.Turns.{filled}
 use Rattle.run.proofs.fill.Statement.{statement}
 use Rattle.run.proofs.fill.Tie as tie

@@ -1,4 +1,4 @@
-use mathlib.Core.Path.{_≡_, refl, sym, ap, _∙_}
+use mathlib.Core.Path.{refl}
 use Rattle.run.specs.Turns.{filledState}
 use Rattle.run.proofs.filled_state.Statement.{statement}
 use Rattle.run.proofs.filled_state.Tie as tie

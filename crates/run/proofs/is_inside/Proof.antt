@@ -1,4 +1,4 @@
-use mathlib.Core.Path.{_≡_, refl, sym, ap, _∙_}
+use mathlib.Core.Path.{_≡_}
 use mathlib.Core.Logic.{⊎-elim}
 use Rattle.cycle.proofs.Widths.{width-is}
 use Rattle.run.proofs.is_inside.Statement.{statement}

@@ -1,4 +1,3 @@
-use mathlib.Core.Path.{_≡_, refl, sym, ap, _∙_}
 use Rattle.act.specs.Cycle.{isLate}
 use Rattle.run.proofs.ShortLaws.{whole-time}
 use borrow.Author.Needs.{needs}

@@ -1,6 +1,6 @@
 use Prim.Native.Nat.{_%_}
 use lib.Dec.{eqb}
-use mathlib.Core.Path.{_≡_, refl, sym, ap, _∙_}
+use mathlib.Core.Path.{sym, _∙_}
 use borrow.Author.Tests.{eqb-true, eq-eqb, ne-eqb, not-true, not-false}
 use Rattle.act.specs.Cycle.{isLeaving}
 use borrow.Author.Needs.{needs}

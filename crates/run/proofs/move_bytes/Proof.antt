@@ -1,4 +1,4 @@
-use mathlib.Core.Path.{_≡_, refl, sym, ap, _∙_}
+use mathlib.Core.Path.{_∙_}
 use Rattle.basics.proofs.MoveLaws.{moved-inside}
 use borrow.Author.Needs.{needs}
 use Rattle.run.proofs.move_bytes.Statement.{statement}

@@ -1,4 +1,3 @@
-use mathlib.Core.Path.{_≡_, refl, sym, ap, _∙_}
 use borrow.Author.Needs.{needs}
 use Rattle.run.proofs.ran_by.Statement.{statement}
 use Rattle.run.proofs.ran_by.Tie as tie

@@ -1,4 +1,3 @@
-use mathlib.Core.Path.{_≡_, refl, sym, ap, _∙_}
 use Rattle.run.specs.Turns.{rested}
 use borrow.Author.Needs.{needs}
 use Rattle.run.proofs.rest.Statement.{statement}

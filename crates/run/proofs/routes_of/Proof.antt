@@ -1,7 +1,7 @@
 use mathlib.Core.Path.{_≡_, refl, sym, ap, _∙_}
 use native.Mathlib.Omega.{arith}
-use Prim.Native.Nat.{ℕ, _+_, _-_, _*_, _≤_, _<_}
-use lib.ListN.{length, getD, set, length-set}
+use Prim.Native.Nat.{_-_, _≤_}
+use lib.ListN.{length, length-set}
 use Rattle.channel.specs.declared.Request.{Request}
 use Rattle.run.specs.Turns.{AreRoutes}
 use Rattle.run.proofs.ShortLaws.{route-more, route-none}

@@ -1,4 +1,4 @@
-use mathlib.Core.Path.{_≡_, refl, sym, ap, _∙_}
+use mathlib.Core.Path.{sym, _∙_}
 use Rattle.step.proofs.PlanLaws.{ready-is}
 use Rattle.run.specs.Run.{runOf}
 use borrow.Author.Needs.{needs}

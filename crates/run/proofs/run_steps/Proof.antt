@@ -1,16 +1,13 @@
 use mathlib.Core.Path.{_≡_, refl, sym, ap, _∙_}
 use native.Mathlib.Omega.{arith}
-use Prim.Native.Nat.{ℕ, _+_, _-_, _*_, _≤_, _<_}
-use mathlib.Core.Bool.{true, false, not, _&&_}
 use lib.ListN.{length}
 use lib.Dec.{ltb}
-use borrow.Author.Needs.{needs}
 use borrow.Author.Tests.{ltb-true, not-true}
 use Rattle.basics.proofs.Tests.{and-left, and-right}
 use Rattle.frame.specs.declared.Setup.{Setup}
 use Rattle.channel.specs.Channel.{Shaped}
 use Rattle.run.specs.Run.{Out}
-use Rattle.run.specs.Turns.{Running, runningOf}
+use Rattle.run.specs.Turns.{runningOf}
 use Rattle.run.proofs.GoingLaws.{Going, go-on, turnable, turned-by, place-small, nearness, nearer, start-going, finished, first-come}
 use Rattle.run.proofs.run_steps.Statement.{statement}
 use Rattle.run.proofs.run_steps.Tie as tie

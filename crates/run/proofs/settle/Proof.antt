@@ -1,7 +1,5 @@
-use mathlib.Core.Path.{_≡_, refl, sym, ap, _∙_}
+use mathlib.Core.Path.{sym, _∙_}
 use native.Mathlib.Omega.{arith}
-use Prim.Native.Nat.{ℕ, _+_, _-_, _*_, _≤_, _<_}
-use mathlib.Core.Bool.{true, false}
 use Rattle.run.specs.Turns.{marksAfter}
 use Rattle.run.proofs.ShortLaws.{behind-winner, winner-small}
 use borrow.Author.Needs.{needs}

@@ -1,5 +1,3 @@
-use mathlib.Core.Path.{_≡_, refl, sym, ap, _∙_}
-use native.Mathlib.Omega.{arith}
 use borrow.Author.Tests.{ne-eqb}
 use Rattle.run.proofs.PutLaws.{turn-grant, turn-rest, turn-cycles}
 use borrow.Author.Needs.{needs}

@@ -1,6 +1,6 @@
-use mathlib.Core.Path.{_≡_, refl, sym, ap, _∙_}
+use mathlib.Core.Path.{_≡_, refl, sym, _∙_}
 use native.Mathlib.Omega.{arith}
-use Prim.Native.Nat.{ℕ, _+_, _-_, _*_, _≤_, _<_}
+use Prim.Native.Nat.{_-_}
 use Rattle.channel.specs.Line.{waits}
 use Rattle.run.specs.Turns.{anyFrom, waitsFrom}
 use Rattle.run.proofs.ShortLaws.{from-hit, from-miss}

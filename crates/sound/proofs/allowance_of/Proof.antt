@@ -1,5 +1,5 @@
 use Rattle.sound.specs.Sound.{allowance}
-use mathlib.Core.Path.{_≡_, refl, sym, ap, _∙_}
+use mathlib.Core.Path.{refl}
 use Rattle.sound.proofs.allowance_of.Statement.{statement}
 use Rattle.sound.proofs.allowance_of.Tie as tie
 

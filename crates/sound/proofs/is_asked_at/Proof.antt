@@ -1,4 +1,3 @@
-use mathlib.Core.Path.{_≡_, refl, sym, ap, ap₂, _∙_}
 use borrow.Author.Needs.{needs}
 use Rattle.sound.proofs.is_asked_at.Statement.{statement}
 use Rattle.sound.proofs.is_asked_at.Tie as tie

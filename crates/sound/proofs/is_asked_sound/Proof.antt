@@ -1,5 +1,5 @@
 use Rattle.sound.specs.Tables.{askedFits}
-use mathlib.Core.Path.{_≡_, refl, sym, ap, ap₂, _∙_}
+use mathlib.Core.Path.{sym, ap₂, _∙_}
 use borrow.Author.Needs.{needs}
 use Rattle.sound.proofs.is_asked_sound.Statement.{statement}
 use Rattle.sound.proofs.is_asked_sound.Tie as tie

@@ -1,5 +1,5 @@
 use Rattle.sound.specs.Sound.{isBlank}
-use mathlib.Core.Path.{_≡_, refl, sym, ap, _∙_}
+use mathlib.Core.Path.{refl}
 use Rattle.sound.proofs.is_blank.Statement.{statement}
 use Rattle.sound.proofs.is_blank.Tie as tie
 

@@ -1,6 +1,5 @@
 use Rattle.sound.specs.Request.{isInRange}
 use borrow.Author.Needs.{needs}
-use mathlib.Core.Path.{_≡_, refl, sym, ap, _∙_}
 use Rattle.sound.proofs.is_in_range.Statement.{statement}
 use Rattle.sound.proofs.is_in_range.Tie as tie
 

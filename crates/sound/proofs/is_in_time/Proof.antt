@@ -1,7 +1,6 @@
 use Rattle.sound.specs.Sound.{isInTime}
 use borrow.Author.Needs.{needs}
 use borrow.Author.Tests.{eq-eqb, ne-eqb}
-use mathlib.Core.Path.{_≡_, refl, sym, ap, _∙_}
 use Rattle.sound.proofs.is_in_time.Statement.{statement}
 use Rattle.sound.proofs.is_in_time.Tie as tie
 

@@ -1,6 +1,6 @@
 use Rattle.sound.specs.Rows.{isPresent, isLevel}
 use borrow.Author.Needs.{needs}
-use mathlib.Core.Path.{_≡_, refl, sym, ap, _∙_}
+use mathlib.Core.Path.{sym, ap, _∙_}
 use Rattle.sound.proofs.is_present.Statement.{statement}
 use Rattle.sound.proofs.is_present.Tie as tie
 

@@ -2,7 +2,7 @@ use Rattle.sound.proofs.TableLaws.{place-small, asked-fits, owner-unsou
 use borrow.Author.Tests.{not-true, not-false}
 use mathlib.Core.Bool.{_&&_}
 use lib.Dec.{leb}
-use mathlib.Core.Path.{_≡_, refl, sym, ap, ap₂, _∙_}
+use mathlib.Core.Path.{sym, _∙_}
 use borrow.Author.Needs.{needs}
 use Rattle.sound.proofs.is_sound.Statement.{statement}
 use Rattle.sound.proofs.is_sound.Tie as tie

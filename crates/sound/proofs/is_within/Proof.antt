@@ -1,8 +1,8 @@
-use Prim.Native.Nat.{ℕ, _+_, _-_, _*_, _≤_, _<_}
+use Prim.Native.Nat.{_+_}
 use Rattle.sound.proofs.Sums.{sum-within, sum-beyond}
 use Rattle.sound.specs.Sound.{isWithin}
 use borrow.Author.Needs.{needs}
-use mathlib.Core.Path.{_≡_, refl, sym, ap, _∙_}
+use mathlib.Core.Path.{sym}
 use native.Mathlib.Omega.{arith}
 use Rattle.sound.proofs.is_within.Statement.{statement}
 use Rattle.sound.proofs.is_within.Tie as tie

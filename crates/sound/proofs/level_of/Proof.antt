@@ -1,6 +1,6 @@
 use Rattle.sound.specs.Rows.{levelOf, levelOr}
 use borrow.Author.Needs.{needs}
-use mathlib.Core.Path.{_≡_, refl, sym, ap, _∙_}
+use mathlib.Core.Path.{sym, ap, _∙_}
 use Rattle.sound.proofs.level_of.Statement.{statement}
 use Rattle.sound.proofs.level_of.Tie as tie
 

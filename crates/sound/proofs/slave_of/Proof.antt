@@ -1,6 +1,6 @@
 use Rattle.sound.specs.Rows.{slaveOf, slaveOr}
 use borrow.Author.Needs.{needs}
-use mathlib.Core.Path.{_≡_, refl, sym, ap, _∙_}
+use mathlib.Core.Path.{sym, ap, _∙_}
 use Rattle.sound.proofs.slave_of.Statement.{statement}
 use Rattle.sound.proofs.slave_of.Tie as tie
 

@@ -1,6 +1,5 @@
 use Rattle.sound.specs.Request.{transferOf}
 use borrow.Author.Needs.{needs}
-use mathlib.Core.Path.{_≡_, refl, sym, ap, _∙_}
 use Rattle.sound.proofs.transfer_of.Statement.{statement}
 use Rattle.sound.proofs.transfer_of.Tie as tie
 

@@ -1,6 +1,5 @@
 use Rattle.step.proofs.ActLaws.{act-grant, act-rest, act-cycle, owner-small, owner-active, owner-roomy}
-use native.Mathlib.Omega.{arith}
-use mathlib.Core.Path.{_≡_, refl, sym, ap, _∙_}
+use mathlib.Core.Path.{refl}
 use borrow.Author.Needs.{needs}
 use Rattle.step.proofs.act_on.Statement.{statement}
 use Rattle.step.proofs.act_on.Tie as tie

@@ -1,9 +1,8 @@
-use Rattle.channel.specs.declared.Phase.the-variants.{Arbitrating}
 use Rattle.channel.specs.declared.Phase.{Phase}
 use Rattle.step.specs.Plan.{actPlan, phasePlan}
 use borrow.Author.Needs.{needs}
 use borrow.Author.Tests.{lt-ltb, le-ltb}
-use mathlib.Core.Path.{_≡_, refl, sym, ap, _∙_}
+use mathlib.Core.Path.{sym, ap, _∙_}
 use Rattle.step.proofs.act_plan.Statement.{statement}
 use Rattle.step.proofs.act_plan.Tie as tie
 

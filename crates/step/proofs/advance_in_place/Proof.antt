@@ -1,5 +1,5 @@
 use Rattle.step.specs.Acts.{Made}
-use mathlib.Core.Path.{_≡_, refl, sym, ap, _∙_}
+use mathlib.Core.Path.{ap, _∙_}
 use borrow.Author.Needs.{needs}
 use Rattle.step.proofs.advance_in_place.Statement.{statement}
 use Rattle.step.proofs.advance_in_place.Tie as tie

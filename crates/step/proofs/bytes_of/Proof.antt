@@ -1,4 +1,3 @@
-use mathlib.Core.Path.{_≡_, refl, sym, ap, _∙_}
 use borrow.Author.Needs.{needs}
 use Rattle.step.proofs.bytes_of.Statement.{statement}
 use Rattle.step.proofs.bytes_of.Tie as tie

@@ -2,7 +2,7 @@ use Rattle.step.specs.Step.{movedSlave, movedMaster, placeFor}
 use Rattle.basics.proofs.MoveLaws.{moved-inside}
 use native.Mathlib.Omega.{arith}
 use borrow.Author.Tests.{eq-eqb, ne-eqb}
-use mathlib.Core.Path.{_≡_, refl, sym, ap, _∙_}
+use mathlib.Core.Path.{_∙_}
 use borrow.Author.Needs.{needs}
 use Rattle.step.proofs.carry.Statement.{statement}
 use Rattle.step.proofs.carry.Tie as tie

@@ -1,7 +1,6 @@
 use Rattle.step.proofs.ActLaws.{cycle-full, cycle-put}
 use borrow.Author.Tests.{lt-ltb, le-ltb}
 use native.Mathlib.Omega.{arith}
-use mathlib.Core.Path.{_≡_, refl, sym, ap, _∙_}
 use borrow.Author.Needs.{needs}
 use Rattle.step.proofs.cycle_on.Statement.{statement}
 use Rattle.step.proofs.cycle_on.Tie as tie

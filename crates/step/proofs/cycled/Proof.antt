@@ -1,5 +1,5 @@
 use Rattle.step.specs.Acts.{cycleActed}
-use mathlib.Core.Path.{_≡_, refl, sym, ap, _∙_}
+use mathlib.Core.Path.{sym, _∙_}
 use borrow.Author.Needs.{needs}
 use Rattle.step.proofs.cycled.Statement.{statement}
 use Rattle.step.proofs.cycled.Tie as tie

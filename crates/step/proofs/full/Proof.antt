@@ -1,5 +1,5 @@
 use Rattle.step.specs.Acts.{fullActed}
-use mathlib.Core.Path.{_≡_, refl, sym, ap, _∙_}
+use mathlib.Core.Path.{refl}
 use Rattle.step.proofs.full.Statement.{statement}
 use Rattle.step.proofs.full.Tie as tie
 

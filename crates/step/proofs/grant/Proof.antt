@@ -1,7 +1,5 @@
-use native.Mathlib.Omega.{arith}
 use Rattle.step.specs.Acts.{grantActed, grantMarks}
 use borrow.Author.Tests.{lt-ltb, le-ltb}
-use mathlib.Core.Path.{_≡_, refl, sym, ap, _∙_}
 use borrow.Author.Needs.{needs}
 use Rattle.step.proofs.grant.Statement.{statement}
 use Rattle.step.proofs.grant.Tie as tie

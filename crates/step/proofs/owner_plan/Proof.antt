@@ -1,7 +1,7 @@
 use Rattle.step.specs.Plan.{ownerPlan, requestPlan}
 use borrow.Author.Needs.{needs}
 use borrow.Author.Tests.{eq-eqb, ne-eqb, lt-ltb, le-ltb}
-use mathlib.Core.Path.{_≡_, refl, sym, ap, _∙_}
+use mathlib.Core.Path.{sym, ap, _∙_}
 use Rattle.step.proofs.owner_plan.Statement.{statement}
 use Rattle.step.proofs.owner_plan.Tie as tie
 

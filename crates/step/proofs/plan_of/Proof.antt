@@ -1,6 +1,6 @@
 use Rattle.step.specs.Plan.{planOf, planBy}
 use borrow.Author.Needs.{needs}
-use mathlib.Core.Path.{_≡_, refl, sym, ap, _∙_}
+use mathlib.Core.Path.{sym, ap, _∙_}
 use Rattle.step.proofs.plan_of.Statement.{statement}
 use Rattle.step.proofs.plan_of.Tie as tie
 

@@ -1,6 +1,6 @@
 use Rattle.frame.proofs.SlaveLaws.{store-broken, store-length}
 use Rattle.step.specs.Plan.{readyVerdict}
-use mathlib.Core.Path.{_≡_, refl, sym, ap, _∙_}
+use mathlib.Core.Path.{sym, _∙_}
 use borrow.Author.Needs.{needs}
 use Rattle.step.proofs.ready_verdict.Statement.{statement}
 use Rattle.step.proofs.ready_verdict.Tie as tie

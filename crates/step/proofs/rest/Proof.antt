@@ -1,5 +1,3 @@
-use Rattle.step.specs.Acts.{restActed}
-use mathlib.Core.Path.{_≡_, refl, sym, ap, _∙_}
 use borrow.Author.Needs.{needs}
 use Rattle.step.proofs.rest.Statement.{statement}
 use Rattle.step.proofs.rest.Tie as tie

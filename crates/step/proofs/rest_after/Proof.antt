@@ -1,5 +1,4 @@
 use Rattle.act.specs.Cycle.{restAfter}
-use mathlib.Core.Path.{_≡_, refl, sym, ap, _∙_}
 use borrow.Author.Needs.{needs}
 use Rattle.step.proofs.rest_after.Statement.{statement}
 use Rattle.step.proofs.rest_after.Tie as tie

@@ -3,7 +3,7 @@ use Rattle.step.specs.Plan.{planOf}
 use Rattle.step.specs.Step.{stepOf, slaveAfter, masterAfter}
 use borrow.Author.Needs.{needs}
 use lib.ListN.{length}
-use mathlib.Core.Path.{_≡_, refl, sym, ap, _∙_}
+use mathlib.Core.Path.{sym, _∙_}
 use Rattle.step.proofs.step.Statement.{statement}
 use Rattle.step.proofs.step.Tie as tie
 

@@ -1,4 +1,3 @@
-use mathlib.Core.Path.{_≡_, refl, sym, ap, _∙_}
 use borrow.Author.Needs.{needs}
 use Rattle.tally.proofs.add_entry.Statement.{statement}
 use Rattle.tally.proofs.add_entry.Tie as tie
