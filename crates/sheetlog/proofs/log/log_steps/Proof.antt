@@ -57,13 +57,25 @@ going-requires : tie.Need-going-requires Inv-loop μ-loop
 going-requires c κs = search needs
 
 same-length-4 : tie.Need-same-length-4 Inv-loop μ-loop
-same-length-4 c = c .before .before .before .before .before .before .before .before .before .before .before .step .kept .1 .1 .1 .0 ∙ c .before .before .before .before .before .before .before .before .before .before .before .before .before .before .before .before .before .before .before .before .loop .inv .0
+same-length-4 c =
+    let five = c .before .before .before .before .before in
+    let ten = five .before .before .before .before .before in
+    let twenty = ten .before .before .before .before .before .before .before .before .before .before in
+    ten .before .step .kept .1 .1 .1 .0 ∙ twenty .loop .inv .0
 
 same-length-5 : tie.Need-same-length-5 Inv-loop μ-loop
-same-length-5 c = c .before .before .before .before .before .before .before .before .before .before .before .step .kept .1 .1 .1 .1 .0 ∙ c .before .before .before .before .before .before .before .before .before .before .before .before .before .before .before .before .before .before .before .before .loop .inv .1
+same-length-5 c =
+    let five = c .before .before .before .before .before in
+    let ten = five .before .before .before .before .before in
+    let twenty = ten .before .before .before .before .before .before .before .before .before .before in
+    ten .before .step .kept .1 .1 .1 .1 .0 ∙ twenty .loop .inv .1
 
 same-length-6 : tie.Need-same-length-6 Inv-loop μ-loop
-same-length-6 c = c .before .before .before .put-stop .kept .0 ∙ c .before .before .before .before .before .before .before .before .before .before .before .before .before .before .before .before .before .before .before .before .loop .inv .2
+same-length-6 c =
+    let five = c .before .before .before .before .before in
+    let ten = five .before .before .before .before .before in
+    let twenty = ten .before .before .before .before .before .before .before .before .before .before in
+    c .before .before .before .put-stop .kept .0 ∙ twenty .loop .inv .2
 
 returns-2 : tie.Need-returns-2 Inv-loop μ-loop
 returns-2 c = search needs
@@ -72,14 +84,25 @@ put-entry-requires : tie.Need-put-entry-requires Inv-loop μ-loop
 put-entry-requires c κs = search needs
 
 add-done : tie.Need-add-done Inv-loop μ-loop
-add-done c = omega (arith, c .before .before .before .before .before .before .before .before .before .before .before .before .before .before .before .before .before .before .before .before .before .loop-test .taken, c .before .before .before .before .before .before .before .before .before .before .before .before .before .before .before .before .before .before .before .before .before .before .before .before .before .before .before .before .fits .steps)
+add-done c =
+    let five = c .before .before .before .before .before in
+    let ten = five .before .before .before .before .before in
+    let twenty = ten .before .before .before .before .before .before .before .before .before .before in
+    omega (arith, twenty .before .loop-test .taken, twenty .before .before .before .before .before .before .before .before .fits .steps)
 
 loop-less : tie.Need-loop-less Inv-loop μ-loop
-loop-less c = omega (arith, c .before .before .before .before .before .before .before .before .before .before .before .before .before .before .before .before .before .before .before .before .before .loop-test .taken)
+loop-less c =
+    let five = c .before .before .before .before .before in
+    let ten = five .before .before .before .before .before in
+    let twenty = ten .before .before .before .before .before .before .before .before .before .before in
+    omega (arith, twenty .before .loop-test .taken)
 
 loop-again : tie.Need-loop-again Inv-loop μ-loop
 loop-again c =
-    let l = c .before .before .before .before .before .before .before .before .before .before .before .before .before .before .before .before .before .before .before .before .before .before .loop .inv in
+    let five = c .before .before .before .before .before in
+    let ten = five .before .before .before .before .before in
+    let twenty = ten .before .before .before .before .before .before .before .before .before .before in
+    let l = twenty .before .before .loop .inv in
     let s = c .before .before .before .before .before .before .before .before .before .before .before .before .before .step .kept in
     (s .1 .1 .1 .0 ∙ l .0, s .1 .1 .1 .1 .0 ∙ l .1, c .before .before .before .before .put-entry .kept .0 ∙ l .2)
 
