@@ -3,3 +3,5 @@ pub mod Whole
 pub mod Instance
 pub mod Unique
 pub mod Functions
+pub mod NumberLaws
+pub mod Refusals

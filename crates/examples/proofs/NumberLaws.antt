@@ -1,0 +1,207 @@
+-- What the definitions that the promises cite come to, in the paper's numbers: the table of specs/Numbers, call by call. Assumes nothing.
+use Prim.Native.Nat.{ℕ, zero, suc, _+_, _≤_}
+use mathlib.Core.Path.{_≡_, refl, sym, ap, _∙_}
+use native.Mathlib.Nat.{zero-add}
+use native.Mathlib.Omega.{arith}
+use mathlib.Core.Bool.{Bool, true, false, cond, not, _&&_}
+use mathlib.Core.List.{List, [], _∷_, _++_}
+use lib.Dec.{eqb, ltb, leb}
+use lib.ListN.{getD, length}
+use borrow.Author.Tests.{eqb-true, eq-eqb, le-ltb, lt-ltb}
+use Rattle.basics.proofs.Tests.{by-test, and-left, and-right}
+use Rattle.refusal.specs.declared.Refusal.{Refusal}
+use Rattle.refusal.specs.Refusal.{numberOf, refusalBy, refusedBy, verdictNumber}
+use Rattle.refusal.specs.declared.Verdict.{Verdict}
+use Rattle.refusal.specs.declared.Verdict.the-variants.{Accepted, Refused}
+use Rattle.refusal.proofs.NumberLaws.{not-zero}
+use Rattle.number.specs.Number.{hasRoom, writtenAt, writtenNumbers}
+use Rattle.cycle.specs.Cycle.{isLength, isWidth, isPort, cycleCount}
+use Rattle.frame.specs.declared.Setup.{Setup}
+use Rattle.channel.specs.declared.Phase.{Phase}
+use Rattle.channel.specs.declared.Phase.the-variants.{Arbitrating, Granted}
+use Rattle.channel.specs.declared.Channel.{Channel}
+use Rattle.channel.specs.declared.Request.{Request}
+use Rattle.channel.specs.Channel.{Shaped, setUp, hasRequest, requestOf}
+use Rattle.channel.specs.Line.{line, winner}
+use Rattle.sound.specs.Rows.{isPresent, slaveOf}
+use Rattle.sound.specs.Request.{requestVerdict}
+use Rattle.post.specs.declared.Order.{Order}
+use Rattle.post.specs.Post.{requestIn, postVerdict, postOf}
+use Rattle.act.specs.Turn.{arbitrationTime}
+use Rattle.tally.specs.declared.Tally.{Tally}
+use Rattle.step.specs.declared.Plan.{Plan}
+use Rattle.step.specs.declared.Plan.the-variants as plan
+use Rattle.step.specs.declared.StepAnswer.{StepAnswer}
+use Rattle.step.specs.declared.StepAnswer.the-variants.{Done, Refused as NotDone}
+use Rattle.step.specs.Plan.{readyVerdict, planBy, planOf, ownerPlan, actPlan, phasePlan}
+use Rattle.step.specs.Step.{planNumbers, stepNumbers, advancedBy, stepOf}
+use Rattle.step.proofs.PlanLaws.{ready-is}
+use Rattle.run.specs.Run.{World, Out, ended, stepIn, after, goOn, runFrom, runOf}
+use Rattle.demands.specs.History.{Moment, Start, Act, steps}
+use Rattle.demands.proofs.KeptLaws.{next-kept}
+use Rattle.sheet.specs.declared.Judged.{Judged}
+use Rattle.sheet.specs.declared.Judged.the-variants.{Good, Fault}
+use Rattle.sheet.specs.Sheet.{answered, sheetNumbers}
+use Rattle.examples.specs.Numbers.{
+  Row,
+  firstOf,
+  broken,
+  unsound,
+  otherLength,
+  requestRows,
+  postRows,
+  countRows,
+  isOver,
+  passes,
+  stepRows,
+  runRows,
+  writtenTold,
+  sheetTold,
+}
+
+-- the numbers of the rows are numbers of the table
+abbrev areNumbers : List Row → Bool
+areNumbers [] = true
+areNumbers ((n, holds) ∷ rows) = eqb (numberOf (refusalBy n)) n && areNumbers rows
+
+-- rows of a verdict, and what follows where none of them holds, whatever is made of the verdict
+rows-told : (told : Verdict → ℕ) → ((r : Refusal) → told (Refused r) ≡ numberOf r) → (rows more : List Row) (v : Verdict)
+    → areNumbers rows ≡ true → told v ≡ firstOf more → told (refusedBy rows v) ≡ firstOf (rows ++ more)
+rows-told told by [] more v are rest = rest
+rows-told told by ((n, true) ∷ rows) more v are rest = by (refusalBy n) ∙ eqb-true _ n (and-left (eqb (numberOf (refusalBy n)) n) (areNumbers rows) are)
+rows-told told by ((n, false) ∷ rows) more v are rest = rows-told told by rows more v (and-right (eqb (numberOf (refusalBy n)) n) (areNumbers rows) are) rest
+
+rows-number : (rows more : List Row) (v : Verdict) → areNumbers rows ≡ true → verdictNumber v ≡ firstOf more
+    → verdictNumber (refusedBy rows v) ≡ firstOf (rows ++ more)
+rows-number rows more v are rest = rows-told verdictNumber (λ r. refl) rows more v are rest
+
+pub set-up-number : (setup : Setup) → verdictNumber (setUp setup .verdict) ≡ firstOf (broken setup ∷ [])
+unfolding setUp
+set-up-number setup = rows-number (broken setup ∷ []) [] Accepted refl refl
+
+pub request-number : (setup : Setup) (q : Request) → verdictNumber (requestVerdict setup q) ≡ firstOf (requestRows setup q)
+unfolding requestVerdict
+request-number setup q = rows-number (requestRows setup q) [] Accepted refl refl
+
+pub post-number : (setup : Setup) (ch : Channel) (p : Order) → verdictNumber (postOf setup ch p .verdict) ≡ firstOf (postRows setup ch p)
+unfolding postOf postVerdict
+post-number setup ch p =
+    rows-number
+    (unsound setup ch ∷ (1, not (isPresent (setup .levels) (p .level))) ∷ (2, hasRequest (ch .left) (p .level)) ∷ [])
+    (requestRows setup (requestIn p))
+    (requestVerdict setup (requestIn p))
+    refl
+    (request-number setup (requestIn p))
+
+pub count-number : (a n w p : ℕ) → verdictNumber (cycleCount a n w p .verdict) ≡ firstOf (countRows a n w p)
+unfolding cycleCount
+count-number a n w p =
+    by-test (not (isLength n && (isWidth w && isPort p)))
+    (λ t. rw t)
+    (λ f. by-test (ltb 16777216 (a + n)) (λ t. rw (f, t)) (λ g. rw (f, g)))
+
+pub ready-number : (setup : Setup) (ch : Channel) (slave master : ℕ)
+    → verdictNumber (readyVerdict setup ch slave master) ≡ firstOf (unsound setup ch ∷ otherLength setup slave master ∷ [])
+unfolding readyVerdict
+ready-number setup ch slave master = rows-number (unsound setup ch ∷ otherLength setup slave master ∷ []) [] Accepted refl refl
+
+-- the number of an answer is the first of its numbers
+abbrev pub first : List ℕ → ℕ
+first numbers = getD numbers 0 0
+
+full : (b : Bool) (p : Plan) → first (planNumbers p) ≡ 0 → first (planNumbers (cond b (plan.Refused (refusalBy 6)) p)) ≡ cond b 6 0
+full true p none = refl
+full false p none = none
+
+resting : (b : Bool) (o : ℕ) → first (planNumbers (cond b (plan.Leave o) plan.Idle)) ≡ 0
+resting true o = refl
+resting false o = refl
+
+phase-number : (setup : Setup) (ch : Channel) (p : Phase) → first (planNumbers (phasePlan setup ch p)) ≡ firstOf ((6, passes setup ch p) ∷ [])
+unfolding ownerPlan
+phase-number setup ch Arbitrating = full (isOver ch arbitrationTime) (plan.Grant (winner (ch .left) (ch .inactive))) refl
+phase-number setup ch (Granted o) =
+    by-test (eqb (requestOf ch o .left) 0)
+    (λ t. rw t (resting (line ch) o))
+    (λ f. rw f (full (isOver ch (slaveOf (setup .slaves) (requestOf ch o) .time)) (plan.Cycle o) refl))
+
+pub plan-number : (setup : Setup) (ch : Channel) (slave master : ℕ)
+    → first (planNumbers (planOf setup ch slave master)) ≡ firstOf (stepRows setup ch slave master)
+unfolding planOf readyVerdict actPlan
+plan-number setup ch slave master =
+    rows-told (λ v. first (planNumbers (planBy setup ch v))) (λ r. refl)
+    (unsound setup ch ∷ otherLength setup slave master ∷ [])
+    ((6, passes setup ch (ch .phase)) ∷ [])
+    Accepted
+    refl
+    (phase-number setup ch (ch .phase))
+
+as-planned : (setup : Setup) (ch : Channel) (p : Plan) → first (stepNumbers (advancedBy setup ch p .answer)) ≡ first (planNumbers p)
+as-planned setup ch plan.Idle = refl
+as-planned setup ch (plan.Refused why) = refl
+as-planned setup ch (plan.Grant w) = refl
+as-planned setup ch (plan.Leave o) = refl
+as-planned setup ch (plan.Cycle o) = refl
+
+pub step-number : (setup : Setup) (ch : Channel) (t : Tally) (slave master : ℕ)
+    → first (stepNumbers (stepOf setup ch t slave master .answer)) ≡ firstOf (stepRows setup ch slave master)
+unfolding stepOf
+step-number setup ch t slave master = as-planned setup ch (planOf setup ch slave master) ∙ plan-number setup ch slave master
+
+pub written-told : (s : List ℕ) (at v : ℕ) → writtenNumbers (writtenAt s at v) ≡ writtenTold s at v
+unfolding writtenAt
+written-told s at v = by-test (hasRoom s at v) (λ t. rw t) (λ f. rw f)
+
+pub sheet-told : (j : Judged) (need room : ℕ) → sheetNumbers (answered j need room) ≡ sheetTold j need room
+sheet-told (Good end) need room = by-test (leb need room) (λ t. rw t) (λ f. rw f)
+sheet-told (Fault why place) need room = refl
+
+-- a run
+
+abbrev momentOf : World → Moment
+momentOf w = record { channel = w .channel; slave = w .slave; master = w .master }
+
+module _ (setup : Setup) (w : World) (s : Start setup (momentOf w)) where
+  ready-rows : firstOf (stepRows setup (w .channel) (length (w .slave)) (length (w .master)))
+      ≡ firstOf ((6, passes setup (w .channel) (w .channel .phase)) ∷ [])
+  ready-rows = rw (s .framed, s .sound, eq-eqb (length (w .slave)) _ (s .slave), eq-eqb (length (w .master)) _ (s .master))
+
+  -- a step of a channel that is ready is refused by 6 alone
+  only-six : (why : Refusal) → stepIn setup w .answer ≡ NotDone why → numberOf why ≡ 6
+  only-six why q =
+      let e : numberOf why ≡ firstOf ((6, passes setup (w .channel) (w .channel .phase)) ∷ []) =
+      ap (λ a. first (stepNumbers a)) (sym q)
+      ∙ step-number setup (w .channel) (w .tally) (length (w .slave)) (length (w .master))
+      ∙ ready-rows in
+      by-test (passes setup (w .channel) (w .channel .phase)) (λ t. rw t at e) (λ f. absurd (not-zero why (rw f at e)))
+
+  kept : Start setup (momentOf (after setup w))
+  unfolding after stepOf
+  kept = next-kept setup (momentOf w) steps s
+
+-- of so many steps in all it takes no more, and it has 6 where it takes fewer, and else 0
+abbrev Stopped : ℕ → Out → Type 0
+Stopped all out = (out .result .steps ≤ all) × (verdictNumber (out .result .verdict) ≡ cond (ltb (out .result .steps) all) 6 0)
+
+run-from : (setup : Setup) (left done : ℕ) (w : World) → Start setup (momentOf w) → Stopped (done + left) (runFrom setup left done w)
+unfolding runFrom
+run-from setup zero done w s = (omega arith, rw (le-ltb done (done + 0) (omega arith)))
+run-from setup (suc left) done w s =
+    goes (stepIn setup w .answer) refl (run-from setup left (suc done) (after setup w) (kept setup w s))
+  where
+    goes : (a : StepAnswer) → stepIn setup w .answer ≡ a → Stopped (suc done + left) (runFrom setup left (suc done) (after setup w))
+        → Stopped (done + suc left) (goOn a (runFrom setup left (suc done) (after setup w)) (λ (v : Verdict). ended v done w))
+    goes (Done e) q later = let more : suc done + left ≡ done + suc left = omega arith in rw more at later
+    goes (NotDone why) q later = (omega arith, rw (lt-ltb done (done + suc left) (omega arith)) (only-six setup w s why q))
+
+pub run-number : (setup : Setup) (budget : ℕ) (w : World) → Shaped (w .channel)
+    → verdictNumber (runOf setup budget w .result .verdict) ≡ firstOf (runRows setup budget w)
+unfolding runOf readyVerdict
+run-number setup budget w k =
+    by-test (unsound setup (w .channel) .1) (λ t. rw t) (λ f.
+    by-test (otherLength setup (length (w .slave)) (length (w .master)) .1) (λ t. rw (f, t)) (λ g.
+    by-test (ltb 65535 budget) (λ t. rw (f, g, t)) (λ h.
+    let r = ready-is setup (w .channel) (length (w .slave)) (length (w .master)) (rw (f, g)) in
+    let s : Start setup (momentOf w) =
+    record { framed = r .framed; sound = r .sound; shaped = k; slave = r .slave; master = r .master } in
+    rw (f, g, h) (rw (zero-add budget) at (run-from setup budget 0 w s) .1))))
