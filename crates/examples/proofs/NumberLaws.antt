@@ -37,7 +37,7 @@ use Rattle.step.specs.Plan.{readyVerdict, planBy, planOf, ownerPlan, actPlan, p
 use Rattle.step.specs.Step.{planNumbers, stepNumbers, advancedBy, stepOf}
 use Rattle.step.proofs.PlanLaws.{ready-is}
 use Rattle.run.specs.Run.{World, Out, ended, stepIn, after, goOn, runFrom, runOf}
-use Rattle.demands.specs.History.{Moment, Start, Act, steps}
+use Rattle.demands.specs.History.{Moment, Start, steps}
 use Rattle.demands.proofs.KeptLaws.{next-kept}
 use Rattle.sheet.specs.declared.Judged.{Judged}
 use Rattle.sheet.specs.declared.Judged.the-variants.{Good, Fault}
