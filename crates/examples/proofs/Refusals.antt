@@ -1,6 +1,7 @@
 -- "Each enum answer has a definition that gives this paper's number and values for each of its cases. The promises use that definition.": of every call that
 -- can be refused, by its contract as the checker has it. Whatever outcome satisfies the contract, its answer, read through the answer's own definition, has the
--- number that the table of specs/Numbers gives. `tests/statements` fails where a call is left out.
+-- number that the table of specs/Numbers gives; a number's 10 and 11 and a sheet's 10 to 16 are those of the definitions `readAt` and `sheet`.
+-- `tests/statements` fails where a call is left out.
 use mathlib.Core.Path.{_≡_, refl, sym, subst}
 use mathlib.Core.List.{[], _∷_}
 use lib.ListN.{length}
@@ -153,7 +154,7 @@ module _ {M : Type 1} (𝓤 : URA M) (H : Heap 𝓤) (A : Atoms 𝓤) (mem : Mem
       lent-three _ (λ (r : Ran). Shaped (a .1 .0) → verdictNumber (r .verdict) ≡ _)
       (run-number (a .0) (a .1 .1 .1 .1 .1 .0) (world (a .1 .0) (a .1 .1 .0 .now) (a .1 .1 .1 .0 .now) (a .1 .1 .1 .1 .0 .now))) r _ _ _
 
-  -- 10 and 11 are in `readAt`, and of a sheet 10 to 16 in `sheet`, with their places
+  -- 10 and 11 are in `readAt`, so this says no more than its equation; of a sheet 10 to 16 are in `sheet`, with their places
   of-read-number : Tells number.read_number.ended number.read_number.clauses
       (λ κs a (r : NumberRead). readNumbers r ≡ readNumbers (readAt (a .0 .now) (a .1 .0)))
   of-read-number κs a g r ws = alone _ (λ (r : NumberRead). readNumbers r ≡ readNumbers (readAt (a .0 .now) (a .1 .0))) refl r

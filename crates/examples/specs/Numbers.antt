@@ -1,5 +1,6 @@
--- Document 01, "Refusal numbers": "No. | Given exactly when", the whole table in one place, a list of rows for each call in the order that the paper gives:
--- "9 first, then 8, then 7, then the rest by number". That each call's promise gives just these numbers is shown in proofs/Numbers.
+-- Document 01, "Refusal numbers": "No. | Given exactly when", the table's 1 to 9 in one place, a list of rows for each call in the order that the paper gives:
+-- "9 first, then 8, then 7, then the rest by number"; and 17. "10 to 17: sheet, below": 10 to 16 stand, by their numbers, in number/Number and sheet/Sheet.
+-- That the calls' promises give these numbers is shown in proofs/Refusals.
 use Prim.Native.Nat.{ℕ, _+_}
 use mathlib.Core.Bool.{Bool, cond, not, _&&_}
 use mathlib.Core.List.{List, [], _∷_}

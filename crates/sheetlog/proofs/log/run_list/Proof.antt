@@ -21,7 +21,9 @@ slice-relend-prefix-run-over : tie.Need-slice-relend-prefix-run-over
 slice-relend-prefix-run-over c = search needs
 
 slice-aggregate-run-over : tie.Need-slice-aggregate-run-over
-slice-aggregate-run-over c = sym (length-take-le (c .before .before .slave-store-length .result) (c .before .before .before .before .before .before .before .before .before .args .slave .now) (omega arith))
+slice-aggregate-run-over c =
+    let a = c .before .before .before .before .before .before .before .before .before .args in
+    sym (length-take-le (c .before .before .slave-store-length .result) (a .slave .now) (omega arith))
 
 run-over-requires : tie.Need-run-over-requires
 run-over-requires c κs = search needs
