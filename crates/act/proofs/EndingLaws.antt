@@ -3,29 +3,26 @@ use Prim.Native.Nat.{ℕ}
 use mathlib.Core.Path.{_≡_, refl}
 use mathlib.Core.Bool.{true, false, and-false}
 use lib.Dec.{eqb}
-use Rattle.cycle.specs.Cycle.{isTransferEnd}
 use Rattle.channel.specs.declared.Asked.{Asked}
 use Rattle.channel.specs.declared.Asked.the-variants.{Never}
 use Rattle.channel.specs.declared.Channel.{Channel}
-use Rattle.channel.specs.declared.Request.{Request}
 use Rattle.channel.specs.Channel.{requestOf}
-use Rattle.sound.specs.Rows.{hasBurst}
+use Rattle.frame.specs.Rows.{hasBurst}
 use Rattle.act.specs.declared.Path.{Path}
 use Rattle.act.specs.declared.Ending.{Ending}
 use Rattle.act.specs.declared.Ending.the-variants.{Kept, Released, Marked}
-use Rattle.act.specs.Cycle.{isLate, isLeaving, endingOf, freed, endedBy}
+use Rattle.act.specs.Cycle.{Cycle, isLate, isLeaving, endingOf, freed, endedBy}
 
 -- "Nothing is released inside a transfer."
-pub kept-inside : (path : Path) (asked : Asked) (clock : ℕ) (rest : Request)
-    → isTransferEnd (path .width) (rest .address) (rest .left) ≡ false → endingOf path asked clock rest ≡ Kept
+pub kept-inside : (path : Path) (asked : Asked) (clock : ℕ) (c : Cycle) → c .ends ≡ false → endingOf path asked clock c ≡ Kept
 unfolding endingOf isLeaving
-kept-inside path asked clock rest e = rw e
+kept-inside path asked clock c e = rw e
 
 -- a bursting owner that nobody asks keeps the channel until its request is done
-pub kept-unasked : (path : Path) (clock : ℕ) (rest : Request) → eqb (rest .left) 0 ≡ false → hasBurst (path .options) ≡ true
-    → isLeaving path Never clock rest ≡ false
+pub kept-unasked : (path : Path) (clock : ℕ) (c : Cycle) → eqb (c .rest .left) 0 ≡ false → hasBurst (path .options) ≡ true
+    → isLeaving path Never clock c ≡ false
 unfolding isLeaving isLate
-kept-unasked path clock rest e b = rw (e, b, and-false)
+kept-unasked path clock c e b = rw (e, b, and-false)
 
 -- however a cycle ends, the requests are as it left them
 pub ended-request : (ending : Ending) (ch : Channel) (o l : ℕ) → requestOf (endedBy ending ch o) l ≡ requestOf ch l

@@ -4,6 +4,7 @@ use Rattle.channel.specs.declared.Phase.the-variants.{Granted}
 use Rattle.channel.specs.declared.Asked.{Asked}
 use Rattle.channel.specs.declared.Asked.the-variants.{Never, At}
 use Rattle.channel.specs.declared.Channel.{Channel}
+use Rattle.channel.specs.Channel.{changed}
 use Rattle.channel.specs.Line.{lineRule}
 use Rattle.act.specs.declared.Hold.{Hold}
 use Rattle.act.specs.declared.Hold.the-variants.{Unasked, After}
@@ -16,18 +17,7 @@ arbitrationTime = 100
 
 -- "The clock grows by 100 (002, T44). The winner is the owner, with no asked time until the line rule sets one."
 unfoldable pub granted : Channel → ℕ → Channel
-granted ch winner =
-    record {
-      phase = Granted winner;
-      asked = Never;
-      clock = ch .clock + arbitrationTime;
-      inactive = ch .inactive;
-      direction = ch .direction;
-      space = ch .space;
-      address = ch .address;
-      left = ch .left;
-      offset = ch .offset;
-    }
+granted ch winner = changed ch (Granted winner) Never (ch .clock + arbitrationTime) (ch .inactive)
 
 unfoldable pub grantTurn : Channel → ℕ → Turned
 grantTurn ch winner =

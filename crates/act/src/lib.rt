@@ -5,19 +5,19 @@ use channel::Request;
 use frame::FoundSlave;
 use frame::Setup;
 ghost use mathlib.Core.Path.{_≡_};
-ghost use Rattle.act.specs.Cycle.{pathOf, slotAfter, isLate, isLeaving, releasedBy, endingOf, isKept, isMarked};
+ghost use Rattle.act.specs.Cycle.{pathOf, releasedBy, isKept, isMarked};
 ghost use Rattle.act.specs.Turn.{arbitrationTime};
 
-// Where the owner's bytes go: what its row and the slave's say, where the slave row's bytes start in the slave store, and
-// how long after its asked time an owner's transfers may go on.
+// Where the owner's bytes go: what its row and the slave's say, how long after its asked time an owner's transfers may go on,
+// and where the slave row's bytes start in the slave store (last, so that no room is left between the fields).
 pub struct Path {
     pub width: u32,
     pub options: u32,
     pub port: u32,
     pub time: u32,
     pub base: u32,
-    pub start: usize,
     pub allowed: u32,
+    pub start: usize,
 }
 
 // At a release: the clock less the asked time, or that there was none.
@@ -58,8 +58,8 @@ pub fn path_of(setup: Setup, owner: u32, request: Request) -> Path
 {
     let levels = setup.levels;
     let slaves = setup.slaves;
-    let row = sound::level_of(levels, owner);
-    let allowed = sound::allowance_of(setup);
+    let row = frame::level_of(levels, owner);
+    let allowed = frame::allowance_of(setup);
     let found = frame::slave_row(slaves, request.space, request.address, request.left);
     match found {
         FoundSlave::Missing => Path {
@@ -68,8 +68,8 @@ pub fn path_of(setup: Setup, owner: u32, request: Request) -> Path
             port: 0,
             time: 0,
             base: 0,
-            start: 0,
             allowed: allowed,
+            start: 0,
         },
         FoundSlave::Row(slave, start) => Path {
             width: row.width,
@@ -77,55 +77,10 @@ pub fn path_of(setup: Setup, owner: u32, request: Request) -> Path
             port: slave.port,
             time: slave.time,
             base: slave.base,
-            start: start,
             allowed: allowed,
+            start: start,
         },
     }
-}
-
-// What then stands in the level's place: zeros where the request is done.
-pub fn slot_after(rest: Request) -> Request
-    ensures { λ r. ⌜ r ≡ slotAfter rest ⌝ }
-{
-    if rest.left == 0 {
-        return Request {
-            direction: 0,
-            space: 0,
-            address: 0,
-            left: 0,
-            offset: 0,
-        };
-    }
-    rest
-}
-
-// There is an asked time, and either linger is off or the next transfer would end after it and the allowance.
-pub fn is_late(path: Path, asked: Asked, clock: u32, rest: Request) -> bool
-    ensures { λ r. ⌜ r ≡ isLate path asked clock rest ⌝ }
-{
-    match asked {
-        Asked::Never => false,
-        Asked::At(t) => {
-            let next = cycle::transfer_time(
-                path.width,
-                path.port,
-                path.time,
-                rest.address,
-                rest.left,
-            );
-            !sound::has_linger(path.options) | !sound::is_within(path.allowed, next, clock, t)
-        }
-    }
-}
-
-// At the end of a transfer the owner releases when the request is done, or burst is off, or it is late.
-pub fn is_leaving(path: Path, asked: Asked, clock: u32, rest: Request) -> bool
-    ensures { λ r. ⌜ r ≡ isLeaving path asked clock rest ⌝ }
-{
-    let done = rest.left == 0;
-    let single = !sound::has_burst(path.options);
-    let late = is_late(path, asked, clock, rest);
-    cycle::is_transfer_end(path.width, rest.address, rest.left) & (done | (single | late))
 }
 
 // A releasing owner that is fair, with an asked time, is marked.
@@ -136,22 +91,12 @@ pub fn released_by(options: u32, asked: Asked, clock: u32) -> Ending
         Asked::Never => Ending::Released(Hold::Unasked),
         Asked::At(t) => {
             let hold = basics::less(clock, t);
-            if sound::is_fair(options) {
+            if frame::is_fair(options) {
                 return Ending::Marked(hold);
             }
             Ending::Released(Hold::After(hold))
         }
     }
-}
-
-// How a cycle that leaves a rest ends, at the clock after it.
-pub fn ending_of(path: Path, asked: Asked, clock: u32, rest: Request) -> Ending
-    ensures { λ r. ⌜ r ≡ endingOf path asked clock rest ⌝ }
-{
-    if is_leaving(path, asked, clock, rest) {
-        return released_by(path.options, asked, clock);
-    }
-    Ending::Kept
 }
 
 // The owner keeps the channel.

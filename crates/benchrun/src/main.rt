@@ -78,7 +78,7 @@ fn whole_run(
 ) -> Session {
     let channel = session.channel;
     let tally = session.tally;
-    let ran = run::run(setup, channel, tally, slave, master, steps);
+    let ran = step::run(setup, channel, tally, slave, master, steps);
     let next = ran.channel;
     let figures = ran.tally;
     Session {

@@ -10,7 +10,7 @@ use libc::STDOUT_FILENO;
 use post::Order;
 use tally::Tally;
 ghost use mathlib.Core.Path.{_≡_};
-ghost use Rattle.run.specs.Run.{world, runOf};
+ghost use Rattle.step.specs.Run.{world, runOf};
 
 fn levels() -> LevelRows {
     let none = LevelRow {

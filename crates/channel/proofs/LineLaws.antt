@@ -1,13 +1,13 @@
 -- Laws of the line, the line rule and the winner.
-use Prim.Native.Nat.{ℕ, zero, suc, _<_, _≤_}
+use Prim.Native.Nat.{ℕ, _<_, _≤_}
 use mathlib.Core.Path.{_≡_, refl, sym, ap, _∙_}
 use mathlib.Core.Bool.{Bool, true, false, not, and-true}
 use mathlib.Core.Logic.{_⊎_, inl, inr}
 use mathlib.Core.List.{List}
 use native.Mathlib.Omega.{arith}
 use borrow.Author.Tests.{eqb-false, ne-eqb, not-true}
-use lib.ListN.{length, replicate, getD-replicate, length-replicate, List·getD-eq-default}
-use lib.Seq.{ext-getD, set-out}
+use lib.ListN.{length, replicate, getD-replicate, length-replicate}
+use lib.Seq.{ext-getD}
 use Rattle.basics.specs.Scan.{anyBelow}
 use Rattle.basics.proofs.ScanLaws.{any-hit, any-ext, any-some, any-mono, any-none, first-least, first-finds, first-default}
 use Rattle.basics.proofs.Tests.{by-test, and-left, and-right}
@@ -15,36 +15,8 @@ use Rattle.channel.specs.declared.Phase.{Phase}
 use Rattle.channel.specs.declared.Phase.the-variants.{Arbitrating, Granted}
 use Rattle.channel.specs.declared.Asked.the-variants.{Never, At}
 use Rattle.channel.specs.declared.Channel.{Channel}
-use Rattle.channel.specs.declared.Request.{Request}
-use Rattle.channel.specs.Channel.{ownerOf, hasRequest, requestOf, withRequest, Shaped}
+use Rattle.channel.specs.Channel.{ownerOf, hasRequest}
 use Rattle.channel.specs.Line.{isInactive, waits, drives, lineActive, line, asks, othersAsk, cleared, timed, lineRule, winner}
-
--- past the last level there is no request
-pub no-request : (ch : Channel) (l : ℕ) → Shaped ch → 16 ≤ l
-    → requestOf ch l ≡ record { direction = 0; space = 0; address = 0; left = 0; offset = 0 }
-no-request ch l s h =
-    λ i. record {
-      direction = List·getD-eq-default (ch .direction) 0 {n = l} (omega (arith, s .direction)) i;
-      space = List·getD-eq-default (ch .space) 0 {n = l} (omega (arith, s .space)) i;
-      address = List·getD-eq-default (ch .address) 0 {n = l} (omega (arith, s .address)) i;
-      left = List·getD-eq-default (ch .left) 0 {n = l} (omega (arith, s .left)) i;
-      offset = List·getD-eq-default (ch .offset) 0 {n = l} (omega (arith, s .offset)) i;
-    }
-
-pub no-place : (ch : Channel) (l : ℕ) (q : Request) → Shaped ch → 16 ≤ l → withRequest ch l q ≡ ch
-unfolding withRequest
-no-place ch l q s h =
-    λ i. record {
-      phase = ch .phase;
-      asked = ch .asked;
-      clock = ch .clock;
-      inactive = ch .inactive;
-      direction = set-out (ch .direction) l (q .direction) (omega (arith, s .direction)) i;
-      space = set-out (ch .space) l (q .space) (omega (arith, s .space)) i;
-      address = set-out (ch .address) l (q .address) (omega (arith, s .address)) i;
-      left = set-out (ch .left) l (q .left) (omega (arith, s .left)) i;
-      offset = set-out (ch .offset) l (q .offset) (omega (arith, s .offset)) i;
-    }
 
 -- what it takes to drive the line, as facts
 pub record Drives (left : List ℕ) (inactive : List Bool) (owner l : ℕ) : Type 0 where

@@ -1,14 +1,34 @@
--- A request laid in a level's place: what stands there then, and what stays; and that every call keeps the arrays' shape.
-use Prim.Native.Nat.{ℕ, _<_}
+-- Equal channels; a request laid in a level's place: what stands there then, and what stays; and that every call keeps the arrays' shape.
+use Prim.Native.Nat.{ℕ, _<_, _≤_}
 use mathlib.Core.Path.{_≡_, refl, _∙_}
+use mathlib.Core.Bool.{Bool}
+use mathlib.Core.List.{List}
 use native.Mathlib.Omega.{arith}
-use lib.ListN.{length-set}
-use lib.Seq.{getD-set-same, getD-set-other}
+use lib.ListN.{length, length-set, List·getD-eq-default}
+use lib.Seq.{set-out, getD-set-same, getD-set-other}
 use Rattle.basics.proofs.Tests.{by-test}
+use Rattle.channel.specs.declared.Phase.{Phase}
+use Rattle.channel.specs.declared.Asked.{Asked}
 use Rattle.channel.specs.declared.Channel.{Channel}
 use Rattle.channel.specs.declared.Request.{Request}
-use Rattle.channel.specs.Channel.{requestOf, withRequest, fresh, Shaped}
+use Rattle.channel.specs.Channel.{requestOf, noRequest, withRequest, changed, fresh, Shaped}
 use Rattle.channel.specs.Line.{line, cleared, timed, lineRule}
+
+-- equal fields, equal channels
+pub same-channel : (a b : Channel) → a .phase ≡ b .phase → a .asked ≡ b .asked → a .clock ≡ b .clock → a .inactive ≡ b .inactive
+    → a .direction ≡ b .direction → a .space ≡ b .space → a .address ≡ b .address → a .left ≡ b .left → a .offset ≡ b .offset → a ≡ b
+same-channel a b phase asked clock inactive direction space address left offset =
+    λ i. record {
+      phase = phase i;
+      asked = asked i;
+      clock = clock i;
+      inactive = inactive i;
+      direction = direction i;
+      space = space i;
+      address = address i;
+      left = left i;
+      offset = offset i;
+    }
 
 pub request-same : (ch : Channel) (l : ℕ) (q : Request) → Shaped ch → l < 16 → requestOf (withRequest ch l q) l ≡ q
 unfolding withRequest
@@ -32,6 +52,27 @@ request-other ch l m q n =
       offset = getD-set-other (ch .offset) l m (q .offset) 0 n i;
     }
 
+-- past the last level there is no request
+pub no-request : (ch : Channel) (l : ℕ) → Shaped ch → 16 ≤ l → requestOf ch l ≡ noRequest
+no-request ch l s h =
+    λ i. record {
+      direction = List·getD-eq-default (ch .direction) 0 {n = l} (omega (arith, s .direction)) i;
+      space = List·getD-eq-default (ch .space) 0 {n = l} (omega (arith, s .space)) i;
+      address = List·getD-eq-default (ch .address) 0 {n = l} (omega (arith, s .address)) i;
+      left = List·getD-eq-default (ch .left) 0 {n = l} (omega (arith, s .left)) i;
+      offset = List·getD-eq-default (ch .offset) 0 {n = l} (omega (arith, s .offset)) i;
+    }
+
+pub no-place : (ch : Channel) (l : ℕ) (q : Request) → Shaped ch → 16 ≤ l → withRequest ch l q ≡ ch
+unfolding withRequest
+no-place ch l q s h =
+    same-channel (withRequest ch l q) ch refl refl refl refl
+    (set-out (ch .direction) l (q .direction) (omega (arith, s .direction)))
+    (set-out (ch .space) l (q .space) (omega (arith, s .space)))
+    (set-out (ch .address) l (q .address) (omega (arith, s .address)))
+    (set-out (ch .left) l (q .left) (omega (arith, s .left)))
+    (set-out (ch .offset) l (q .offset) (omega (arith, s .offset)))
+
 -- the shape of the arrays
 pub fresh-shaped : Shaped fresh
 fresh-shaped = record { inactive = refl; direction = refl; space = refl; address = refl; left = refl; offset = refl }
@@ -48,14 +89,14 @@ with-shaped ch l q s =
       offset = length-set (ch .offset) l (q .offset) ∙ s .offset;
     }
 
+-- a changed channel has the shape where its marks have
+pub changed-shaped : (ch : Channel) (phase : Phase) (asked : Asked) (clock : ℕ) (marks : List Bool) → length marks ≡ 16 → Shaped ch
+    → Shaped (changed ch phase asked clock marks)
+changed-shaped ch phase asked clock marks n s =
+    record { inactive = n; direction = s .direction; space = s .space; address = s .address; left = s .left; offset = s .offset }
+
 pub rule-shaped : (ch : Channel) → Shaped ch → Shaped (lineRule ch)
 unfolding timed cleared
 rule-shaped ch s =
-    record {
-      inactive = by-test (line ch) (λ t. rw t (s .inactive)) (λ f. rw f refl);
-      direction = s .direction;
-      space = s .space;
-      address = s .address;
-      left = s .left;
-      offset = s .offset;
-    }
+    changed-shaped ch (ch .phase) (lineRule ch .asked) (ch .clock) (lineRule ch .inactive)
+    (by-test (line ch) (λ t. rw t (s .inactive)) (λ f. rw f refl)) s

@@ -11,6 +11,7 @@ use Rattle.frame.specs.declared.Setup.{Setup}
 use Rattle.frame.specs.Frame.{isFramed}
 use Rattle.channel.specs.declared.Phase.{Phase}
 use Rattle.channel.specs.declared.Phase.the-variants.{Arbitrating, Granted}
+use Rattle.channel.specs.declared.Asked.{Asked}
 use Rattle.channel.specs.declared.Asked.the-variants.{Never}
 use Rattle.channel.specs.declared.Channel.{Channel}
 use Rattle.channel.specs.declared.Request.{Request}
@@ -41,6 +42,10 @@ requestOf ch l =
       offset = getD (ch .offset) l 0;
     }
 
+-- what stands in the place of a level without a request
+abbrev pub noRequest : Request
+noRequest = record { direction = 0; space = 0; address = 0; left = 0; offset = 0 }
+
 -- the channel with a level's request laid in its place
 unfoldable pub withRequest : Channel → ℕ → Request → Channel
 withRequest ch l q =
@@ -54,6 +59,21 @@ withRequest ch l q =
       address = set (ch .address) l (q .address);
       left = set (ch .left) l (q .left);
       offset = set (ch .offset) l (q .offset);
+    }
+
+-- the channel with another phase, asked time, clock and marks; its requests stay
+abbrev pub changed : Channel → Phase → Asked → ℕ → List Bool → Channel
+changed ch phase asked clock inactive =
+    record {
+      phase = phase;
+      asked = asked;
+      clock = clock;
+      inactive = inactive;
+      direction = ch .direction;
+      space = ch .space;
+      address = ch .address;
+      left = ch .left;
+      offset = ch .offset;
     }
 
 -- "After set-up: arbitrating, clock 0, no requests, no marks."

@@ -10,7 +10,7 @@ use Rattle.channel.specs.declared.Phase.the-variants.{Arbitrating, Grant
 use Rattle.channel.specs.declared.Asked.{Asked}
 use Rattle.channel.specs.declared.Asked.the-variants.{Never, At}
 use Rattle.channel.specs.declared.Channel.{Channel}
-use Rattle.channel.specs.Channel.{ownerOf, hasRequest}
+use Rattle.channel.specs.Channel.{ownerOf, hasRequest, changed}
 
 -- an inactive mark per level
 abbrev pub isInactive : List Bool → ℕ → Bool
@@ -40,18 +40,7 @@ othersAsk ch = anyBelow (asks (ch .left) (ownerOf (ch .phase))) 16
 
 -- "1. If the line is not active, every inactive mark is removed, and the line is judged afresh."
 unfoldable pub cleared : Channel → Channel
-cleared ch =
-    record {
-      phase = ch .phase;
-      asked = ch .asked;
-      clock = ch .clock;
-      inactive = cond (line ch) (ch .inactive) (replicate 16 false);
-      direction = ch .direction;
-      space = ch .space;
-      address = ch .address;
-      left = ch .left;
-      offset = ch .offset;
-    }
+cleared ch = changed ch (ch .phase) (ch .asked) (ch .clock) (cond (line ch) (ch .inactive) (replicate 16 false))
 
 -- "2. While granted, an active line with no asked time sets the asked time to the clock. While arbitrating there is no asked time."
 abbrev pub askedNow : Phase → Asked → Bool → ℕ → Asked
@@ -60,18 +49,7 @@ askedNow (Granted owner) (At t) active clock = At t
 askedNow (Granted owner) Never active clock = cond active (At clock) Never
 
 unfoldable pub timed : Channel → Channel
-timed ch =
-    record {
-      phase = ch .phase;
-      asked = askedNow (ch .phase) (ch .asked) (line ch) (ch .clock);
-      clock = ch .clock;
-      inactive = ch .inactive;
-      direction = ch .direction;
-      space = ch .space;
-      address = ch .address;
-      left = ch .left;
-      offset = ch .offset;
-    }
+timed ch = changed ch (ch .phase) (askedNow (ch .phase) (ch .asked) (line ch) (ch .clock)) (ch .clock) (ch .inactive)
 
 -- "After each accepted post and step"
 abbrev pub lineRule : Channel → Channel

@@ -1,12 +1,16 @@
 // The channel (document 01, "The frame", "The line rule"): its phase, asked time, clock, marks and requests; the line
 // -PREEMPT, the line rule, the winner of an arbitration, and the channel after set-up.
+use frame::FoundSlave;
 use frame::Setup;
+use frame::SlaveRow;
+use frame::SlaveRows;
 use refusal::Refusal;
 use refusal::Verdict;
 ghost use mathlib.Core.Path.{_≡_};
 ghost use mathlib.Core.Bool.{cond};
-ghost use Rattle.channel.specs.Channel.{ownerOf, placeIn, requestOf, withRequest, fresh, setUp};
+ghost use Rattle.channel.specs.Channel.{ownerOf, placeIn, noRequest, requestOf, withRequest, fresh, setUp};
 ghost use Rattle.channel.specs.Line.{lineActive, winner, cleared, askedNow, timed, lineRule};
+ghost use Rattle.channel.specs.Slave.{slaveOf};
 
 // The channel is arbitrating, or granted to one level.
 pub enum Phase {
@@ -68,18 +72,25 @@ pub fn place_of(phase: Phase) -> usize
     }
 }
 
+// What stands in the place of a level without a request.
+pub fn no_request() -> Request
+    ensures { λ r. ⌜ r ≡ noRequest ⌝ }
+{
+    Request {
+        direction: 0,
+        space: 0,
+        address: 0,
+        left: 0,
+        offset: 0,
+    }
+}
+
 // The request of a level.
 pub fn request_of(channel: Channel, level: usize) -> Request
     ensures { λ r. ⌜ r ≡ requestOf channel level ⌝ }
 {
     if 16 <= level {
-        return Request {
-            direction: 0,
-            space: 0,
-            address: 0,
-            left: 0,
-            offset: 0,
-        };
+        return no_request();
     }
     Request {
         direction: channel.direction[level],
@@ -104,6 +115,23 @@ pub fn put_request(channel: Channel, level: usize, request: Request) -> Channel
     next.left[level] = request.left;
     next.offset[level] = request.offset;
     next
+}
+
+// The slave row of a request, or a row of zeros.
+pub fn slave_of(slaves: SlaveRows, request: Request) -> SlaveRow
+    ensures { λ r. ⌜ r ≡ slaveOf slaves request ⌝ }
+{
+    let found = frame::slave_row(slaves, request.space, request.address, request.left);
+    match found {
+        FoundSlave::Missing => SlaveRow {
+            space: 0,
+            base: 0,
+            length: 0,
+            port: 0,
+            time: 0,
+        },
+        FoundSlave::Row(row, _) => row,
+    }
 }
 
 // -PREEMPT: some level other than the owner has an open request and isn't inactive.

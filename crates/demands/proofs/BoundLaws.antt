@@ -4,7 +4,6 @@ use Prim.Native.Nat.{ℕ, _+_, _≤_}
 use mathlib.Core.Path.{_≡_, refl, sym, ap, _∙_}
 use mathlib.Core.Bool.{Bool, true, false}
 use mathlib.Core.List.{List, [], _∷_}
-use native.Mathlib.Nat.{mul-le-mul-right, one-mul}
 use native.Mathlib.Omega.{arith}
 use borrow.Author.Tests.{leb-true, eqb-true}
 use lib.ListN.{length, getD}
@@ -23,26 +22,24 @@ use Rattle.channel.proofs.RequestLaws.{fresh-shaped}
 use Rattle.post.proofs.FreshLaws.{fresh-sound}
 use Rattle.channel.specs.Line.{line, othersAsk, cleared, askedNow, timed, lineRule}
 use Rattle.channel.proofs.LineLaws.{line-timed, line-after}
-use Rattle.channel.specs.declared.Request.{Request}
-use Rattle.cycle.specs.Cycle.{transferCycles, transferTime}
-use Rattle.sound.specs.Rows.{levelOf, slaveOf}
-use Rattle.sound.specs.Request.{transferOf}
-use Rattle.sound.specs.Sound.{allowance, isWithin, isInTime}
+use Rattle.frame.specs.Allowance.{allowance, isWithin}
+use Rattle.sound.specs.Sound.{isInTime}
 use Rattle.sound.proofs.SoundFacts.{Sound, InTime, sound-is, sound-by}
 use Rattle.sound.proofs.RuleLaws.{rule-same}
 use Rattle.refusal.specs.Refusal.{isAccepted}
 use Rattle.post.specs.declared.Order.{Order}
 use Rattle.post.specs.Post.{requestIn, postVerdict, posted, postOf}
-use Rattle.act.specs.declared.Path.{Path}
 use Rattle.act.specs.declared.Ending.{Ending}
 use Rattle.act.specs.declared.Ending.the-variants.{Kept, Released, Marked}
-use Rattle.act.specs.Cycle.{pathOf, restAfter, endingOf, clocked, freed, markedAt, endedBy, movedOn, cycleTurn}
+use Rattle.act.specs.Cycle.{Cycle, endingAt, clocked, freed, markedAt, endedBy, movedOn, cycleTurn}
+use Rattle.step.proofs.CycleFacts.{Takes}
 use Rattle.act.specs.Turn.{granted, grantTurn, leaveTurn}
 use Rattle.step.specs.declared.Plan.{Plan}
 use Rattle.step.specs.declared.Plan.the-variants as plan
 use Rattle.step.specs.Plan.{actPlan}
 use Rattle.step.specs.Step.{Ready, advancedBy, stepOf}
 use Rattle.step.proofs.PlanLaws.{says, plan-ready}
+use Rattle.step.proofs.KeepLaws.{pathAt, nextCycle, clockAt, takes}
 use Rattle.demands.specs.History.{Moment, Act, posts, steps, next, after, Start}
 use Rattle.demands.specs.Waiting.{First, nobody, since, noted, firstAfter, firstOver}
 use Rattle.demands.proofs.KeptLaws.{next-kept, always}
@@ -99,9 +96,9 @@ freed-first : (ch : Channel) (marks : List Bool) (f : First) → firstOf (lineRu
 unfolding timed cleared freed
 freed-first ch marks f = refl
 
-moved-asked : (path : Path) (ch : Channel) (o : ℕ) (q : Request) → movedOn path ch o q .asked ≡ ch .asked
+moved-asked : (ch : Channel) (o : ℕ) (c : Cycle) → movedOn ch o c .asked ≡ ch .asked
 unfolding movedOn withRequest clocked
-moved-asked path ch o q = refl
+moved-asked ch o c = refl
 
 post-first : (ch : Channel) (p : Order) → firstOf (posted ch p .asked) ≡ firstAfter (firstOf (ch .asked)) (posted ch p)
 unfolding posted withRequest
@@ -130,9 +127,8 @@ module _ (setup : Setup) (ch : Channel) (k : Shaped ch) (s : Sound setup ch) whe
       → firstOf (advancedBy setup ch (plan.Cycle o) .channel .asked) ≡ firstAfter (firstOf (ch .asked)) (advancedBy setup ch (plan.Cycle o) .channel)
   unfolding cycleTurn
   cycle-first o =
-      let path = pathOf setup o (requestOf ch o) in
-      let q = requestOf ch o in
-      ended-first (endingOf path (ch .asked) (ch .clock + path .time) (restAfter path q)) (movedOn path ch o q) o (moved-asked path ch o q)
+      let c = nextCycle setup ch o in
+      ended-first (endingAt (pathAt setup ch o) ch c) (movedOn ch o c) o (moved-asked ch o c)
 
   act-first : (p : Plan) → actPlan setup ch ≡ p
       → firstOf (advancedBy setup ch p .channel .asked) ≡ firstAfter (firstOf (ch .asked)) (advancedBy setup ch p .channel)
@@ -157,17 +153,15 @@ posted-clock : (ch : Channel) (p : Order) → posted ch p .clock ≡ ch .clock
 unfolding posted withRequest timed cleared
 posted-clock ch p = refl
 
-moved-clock : (path : Path) (ch : Channel) (o : ℕ) (q : Request) → movedOn path ch o q .clock ≡ ch .clock + path .time
+moved-clock : (ch : Channel) (o : ℕ) (c : Cycle) → movedOn ch o c .clock ≡ ch .clock + c .time
 unfolding movedOn withRequest clocked
-moved-clock path ch o q = refl
+moved-clock ch o c = refl
 
-cycle-clock : (setup : Setup) (ch : Channel) (o : ℕ)
-    → advancedBy setup ch (plan.Cycle o) .channel .clock ≡ ch .clock + slaveOf (setup .slaves) (requestOf ch o) .time
-unfolding cycleTurn pathOf
+cycle-clock : (setup : Setup) (ch : Channel) (o : ℕ) → advancedBy setup ch (plan.Cycle o) .channel .clock ≡ clockAt setup ch o
+unfolding cycleTurn
 cycle-clock setup ch o =
-    let path = pathOf setup o (requestOf ch o) in
-    let q = requestOf ch o in
-    ended-clock (endingOf path (ch .asked) (ch .clock + path .time) (restAfter path q)) (movedOn path ch o q) o ∙ moved-clock path ch o q
+    let c = nextCycle setup ch o in
+    ended-clock (endingAt (pathAt setup ch o) ch c) (movedOn ch o c) o ∙ moved-clock ch o c
 
 -- over a history: the asked time is the first clock since the grant at which another level had an open request
 next-first : (setup : Setup) (m : Moment) (a : Act) → Start setup m
@@ -195,33 +189,25 @@ since-asked : (a : Asked) (t : ℕ) → firstOf a ≡ since t → a ≡ At t
 since-asked Never t e = let z : _≡_ {A = ℕ} 0 1 = cc in absurd (omega arith)
 since-asked (At u) t e = ap At (cc)
 
-cycle-least : (w p time a r : ℕ) → time ≤ transferTime w p time a r
-unfolding transferTime
-cycle-least w p time a r =
-    let n : 1 ≤ transferCycles w p a r = omega arith in
-    rw one-mul at (mul-le-mul-right time n)
+cycle-within : (setup : Setup) (ch : Channel) (o t : ℕ) (c : Cycle) → Takes setup o (requestOf ch o) c → InTime setup ch o t
+    → eqb (getD (ch .left) o 0) 0 ≡ false → ch .clock + c .time ≤ t + allowance setup
+unfolding isInTime isWithin
+cycle-within setup ch o t c takes i n = omega (arith, takes .transfer, leb-true _ (t + allowance setup) (rw n at (i .kept)))
 
-cycle-within : (setup : Setup) (ch : Channel) (o t : ℕ) → InTime setup ch o t → eqb (getD (ch .left) o 0) 0 ≡ false
-    → ch .clock + slaveOf (setup .slaves) (requestOf ch o) .time ≤ t + allowance setup
-unfolding isInTime isWithin transferOf
-cycle-within setup ch o t i n =
-    let slave = slaveOf (setup .slaves) (requestOf ch o) in
-    let c = cycle-least (levelOf (setup .levels) o .width) (slave .port) (slave .time) (requestOf ch o .address) (requestOf ch o .left) in
-    omega (arith, c, leb-true _ (t + allowance setup) (rw n at (i .kept)))
-
-act-within : (setup : Setup) (ch : Channel) (o t : ℕ) (p : Plan) → actPlan setup ch ≡ p → ch .phase ≡ Granted o → InTime setup ch o t
-    → advancedBy setup ch p .channel .clock ≤ t + allowance setup
-act-within setup ch o t plan.Idle e f i = asked-within setup ch o t i
-act-within setup ch o t (plan.Refused why) e f i = asked-within setup ch o t i
-act-within setup ch o t (plan.Grant w) e f i =
+act-within : (setup : Setup) → isFramed setup ≡ true → (ch : Channel) → Shaped ch → Sound setup ch → (o t : ℕ) (p : Plan) → actPlan setup ch ≡ p
+    → ch .phase ≡ Granted o → InTime setup ch o t → advancedBy setup ch p .channel .clock ≤ t + allowance setup
+act-within setup framed ch k s o t plan.Idle e f i = asked-within setup ch o t i
+act-within setup framed ch k s o t (plan.Refused why) e f i = asked-within setup ch o t i
+act-within setup framed ch k s o t (plan.Grant w) e f i =
     let p = says setup ch (plan.Grant w) e in
     let z : _≡_ {A = ℕ} 0 1 = cc in
     absurd (omega arith)
-act-within setup ch o t (plan.Leave l) e f i = rw (leave-clock ch l) (asked-within setup ch o t i)
-act-within setup ch o t (plan.Cycle l) e f i =
+act-within setup framed ch k s o t (plan.Leave l) e f i = rw (leave-clock ch l) (asked-within setup ch o t i)
+act-within setup framed ch k s o t (plan.Cycle l) e f i =
     let p = says setup ch (plan.Cycle l) e in
     let same : l ≡ o = cc in
-    rw (cycle-clock setup ch l) (rw same (cycle-within setup ch o t i (rw same at (p .1))))
+    let c = takes setup framed ch k s l (p .0) (rw (p .1)) (p .2) in
+    rw (cycle-clock setup ch l) (cycle-within setup ch l t (nextCycle setup ch l) c (rw (← same) at i) (p .1))
 
 next-within : (setup : Setup) (m : Moment) (a : Act) (o t : ℕ) → Start setup m → m .channel .phase ≡ Granted o → InTime setup (m .channel) o t
     → next setup m a .channel .clock ≤ t + allowance setup
@@ -233,7 +219,8 @@ next-within setup m (posts p) o t s f i =
 next-within setup m steps o t s f i =
     let ch = m .channel in
     let r : Ready setup ch (length (m .slave)) (length (m .master)) = record { framed = s .framed; sound = s .sound; slave = s .slave; master = s .master } in
-    rw (plan-ready setup ch (length (m .slave)) (length (m .master)) r) (act-within setup ch o t (actPlan setup ch) refl f i)
+    rw (plan-ready setup ch (length (m .slave)) (length (m .master)) r)
+    (act-within setup (s .framed) ch (s .shaped) (sound-is setup ch (s .sound)) o t (actPlan setup ch) refl f i)
 
 -- Demand 3, the bound. From any start, after any posts and steps: while a level owns the channel and another has had an open request since the clock
 -- t, first since the grant, the clock is at most the allowance past t; and so it is after one more act, at the release too.

@@ -1,5 +1,5 @@
 -- A level's cycles cover its requests in posting order, each byte once.
-use Prim.Native.Nat.{ℕ, zero, suc, _+_, _-_}
+use Prim.Native.Nat.{ℕ, zero, suc, _+_}
 use mathlib.Core.Path.{_≡_, refl, sym, ap, _∙_}
 use mathlib.Core.Bool.{true, cond, false≢true}
 use mathlib.Core.List.{List, [], _∷_, _++_, append-assoc, append-nil}
@@ -17,14 +17,14 @@ use Rattle.channel.specs.declared.Request.{Request}
 use Rattle.channel.specs.Channel.{hasRequest, requestOf, withRequest, Shaped}
 use Rattle.channel.proofs.RequestLaws.{request-same, request-other}
 use Rattle.sound.proofs.SoundFacts.{Sound, sound-is, accepted-is}
-use Rattle.sound.proofs.RequestFacts.{level-facts-of}
+use Rattle.frame.proofs.FrameLaws.{level-facts-of}
 use Rattle.post.specs.declared.Order.{Order}
 use Rattle.post.specs.Post.{requestIn, postVerdict, posted, postOf}
 use Rattle.post.proofs.PostLaws.{Allowed, allowed}
-use Rattle.act.specs.declared.Path.{Path}
 use Rattle.act.specs.declared.Entry.{Entry}
-use Rattle.act.specs.declared.Entry.the-variants.{Idle, Grant, Cycle, Release}
-use Rattle.act.specs.Cycle.{pathOf, cycleBytes, restAfter, slotAfter, endingOf, freed, endedBy, movedOn, cycleEntry, cycleTurn}
+use Rattle.act.specs.declared.Entry.the-variants.{Idle, Grant, Cycle as CycleLine, Release}
+use Rattle.act.specs.Cycle.{Cycle, endingAt, freed, cycleEntry, cycleTurn}
+use Rattle.step.proofs.CycleFacts.{Leaves}
 use Rattle.act.specs.Turn.{granted, grantTurn, leaveTurn}
 use Rattle.act.proofs.EndingLaws.{ended-request}
 use Rattle.step.specs.declared.Plan.{Plan}
@@ -34,7 +34,7 @@ use Rattle.step.specs.declared.StepAnswer.the-variants.{Done, Refused}
 use Rattle.step.specs.Plan.{actPlan}
 use Rattle.step.specs.Step.{Ready, advancedBy, stepOf}
 use Rattle.step.proofs.PlanLaws.{says, plan-ready}
-use Rattle.step.proofs.KeepLaws.{here, other}
+use Rattle.step.proofs.KeepLaws.{pathAt, nextCycle, movedAt, endedAt, leaves, here, other}
 use Rattle.demands.specs.History.{Moment, Act, posts, steps, noTally, next, after, Start}
 use Rattle.demands.specs.Log.{added, logOf}
 use Rattle.demands.specs.Bytes.{
@@ -75,17 +75,22 @@ how-many zero b = refl
 how-many (suc n) b = ap suc (how-many n (further 1 b))
 
 -- a request is the bytes of its next cycle and those that are left after it
-slot-bytes : (rest : Request) → bytesOf (slotAfter rest) ≡ bytesOf rest
-unfolding slotAfter
-slot-bytes rest =
-    by-test (eqb (rest .left) 0) (λ t. rw (t, eqb-true (rest .left) 0 t)) (λ f. rw f)
+rest-bytes : (q : Request) (c : Cycle) → Leaves q c → bytesFrom (c .rest .left) (further (c .bytes) (firstByte q)) ≡ bytesOf (c .rest)
+rest-bytes q c k =
+    by-test (eqb (c .rest .left) 0)
+    (λ t. rw (eqb-true (c .rest .left) 0 t))
+    (λ f. ap (λ (r : Request). bytesFrom (c .rest .left) (firstByte r)) (sym (k .onward (omega (arith, eqb-false (c .rest .left) 0 f)))))
 
-cycle-parts : (path : Path) (q : Request) → bytesOf q ≡ bytesFrom (cycleBytes path q) (firstByte q) ++ bytesOf (restAfter path q)
-unfolding restAfter
-cycle-parts path q =
-    let n = cycleBytes path q in
-    let e : q .left ≡ n + (q .left - n) = omega arith in
-    ap (λ (k : ℕ). bytesFrom k (firstByte q)) e ∙ in-parts n (q .left - n) (firstByte q)
+abbrev cycleByte : Request → Cycle → Byte
+cycleByte q c = record { direction = q .direction; space = q .space; address = c .address; offset = q .offset }
+
+cycle-parts : (q : Request) (c : Cycle) → Leaves q c → bytesOf q ≡ bytesFrom (c .bytes) (cycleByte q c) ++ bytesOf (c .rest)
+cycle-parts q c k =
+    let e : q .left ≡ c .bytes + c .rest .left = omega (arith, k .most, k .left) in
+    rw (k .address)
+    (ap (λ (n : ℕ). bytesFrom n (firstByte q)) e
+    ∙ in-parts (c .bytes) (c .rest .left) (firstByte q)
+    ∙ ap (λ (x : List Byte). bytesFrom (c .bytes) (firstByte q) ++ x) (rest-bytes q c k))
 
 -- what an act asks for and moves, for one level, leaves the order of its bytes
 abbrev Flows : List Byte → List Byte → List Byte → List Byte → Type 0
@@ -105,19 +110,19 @@ module _ (setup : Setup) (framed : isFramed setup ≡ true) (ch : Channel) (shap
   cycle-flows o e =
       let p = says setup ch (plan.Cycle o) e in
       let q = requestOf ch o in
-      let path = pathOf setup o q in
+      let c = nextCycle setup ch o in
       let asks : hasRequest (ch .left) o ≡ true = rw (p .1) in
-      let ending = endingOf path (ch .asked) (ch .clock + path .time) (restAfter path q) in
-      let r = rule-request (endedBy ending (movedOn path ch o q) o) l ∙ ended-request ending (movedOn path ch o q) o l in
+      let k = leaves setup framed ch shaped s o (p .0) asks (p .2) in
+      let r = rule-request (endedAt setup ch o) l ∙ ended-request (endingAt (pathAt setup ch o) ch c) (movedAt setup ch o) o l in
       by-test (eqb o l)
       (λ t.
       let same : l ≡ o = sym (eqb-true o l t) in
-      let k = r ∙ here setup framed ch shaped s o (p .0) asks (p .2) l same in
+      let later = r ∙ here setup framed ch shaped s o (p .0) asks (p .2) l same in
       rw t
       (append-nil (bytesOf (requestOf ch l))
       ∙ ap (λ (x : ℕ). bytesOf (requestOf ch x)) same
-      ∙ cycle-parts path q
-      ∙ ap (λ (x : List Byte). bytesFrom (cycleBytes path q) (firstByte q) ++ x) (sym (ap bytesOf k ∙ slot-bytes (restAfter path q)))))
+      ∙ cycle-parts q c k
+      ∙ ap (λ (x : List Byte). bytesFrom (c .bytes) (cycleByte q c) ++ x) (sym (ap bytesOf later))))
       (λ f.
       let n = eqb-false o l f in
       rw f (still (requestOf ch l) _ (r ∙ other setup framed ch shaped s o (p .0) asks (p .2) l (λ c. n (sym c)))))
@@ -132,7 +137,7 @@ module _ (setup : Setup) (framed : isFramed setup ≡ true) (ch : Channel) (shap
 
 step-flows : (setup : Setup) (m : Moment) (l : ℕ) → Start setup m
     → Flows (openBytes m l) []
-    (movedFor (m .channel) l (stepOf setup (m .channel) noTally (length (m .slave)) (length (m .master)) .answer))
+    (movedFor (m .channel) l (stepOf setup (m .channel) noTally (m .slave) (m .master) .answer))
     (openBytes (next setup m steps) l)
 unfolding stepOf
 step-flows setup m l s =
@@ -198,7 +203,7 @@ answer-logged ch l (Done (Idle clock)) log = sym (zero-add (logged l log))
 answer-logged ch l (Done (Grant clock level)) log = sym (zero-add (logged l log))
 answer-logged ch l (Done (Release clock level hold)) log = sym (zero-add (logged l log))
 answer-logged ch l (Refused why) log = sym (zero-add (logged l log))
-answer-logged ch l (Done (Cycle entry)) log =
+answer-logged ch l (Done (CycleLine entry)) log =
     by-test (eqb (entry .level) l) (λ t. rw (t, how-many (entry .bytes) _)) (λ f. rw f)
 
 pub log-counts : (setup : Setup) (m : Moment) (l : ℕ) (acts : List Act) → logged l (logOf setup m acts) ≡ length (moved setup m l acts)

@@ -1,5 +1,5 @@
 -- A level's cycles stand in the log only between its grant and its release.
-use Prim.Native.Nat.{ℕ, _+_}
+use Prim.Native.Nat.{ℕ}
 use mathlib.Core.Path.{_≡_, refl, ap, _∙_}
 use mathlib.Core.Bool.{true}
 use mathlib.Core.List.{List, [], _∷_}
@@ -10,16 +10,14 @@ use Rattle.refusal.specs.Refusal.{isAccepted}
 use Rattle.frame.specs.declared.Setup.{Setup}
 use Rattle.channel.specs.declared.Phase.{Phase}
 use Rattle.channel.specs.declared.Channel.{Channel}
-use Rattle.channel.specs.declared.Request.{Request}
-use Rattle.channel.specs.Channel.{requestOf, withRequest}
+use Rattle.channel.specs.Channel.{withRequest}
 use Rattle.channel.specs.Line.{cleared, timed, lineRule}
 use Rattle.post.specs.declared.Order.{Order}
 use Rattle.post.specs.Post.{requestIn, postVerdict, posted, postOf}
-use Rattle.act.specs.declared.Path.{Path}
 use Rattle.act.specs.declared.Ending.{Ending}
 use Rattle.act.specs.declared.Ending.the-variants.{Kept, Released, Marked}
 use Rattle.act.specs.declared.Entry.{Entry}
-use Rattle.act.specs.Cycle.{pathOf, restAfter, endingOf, clocked, freed, endedBy, movedOn, cycleEntry, cycleTurn}
+use Rattle.act.specs.Cycle.{Cycle, endingAt, clocked, freed, endedBy, movedOn, cycleEntry, cycleTurn}
 use Rattle.act.specs.Turn.{granted, grantTurn, leaveTurn}
 use Rattle.step.specs.declared.Plan.{Plan}
 use Rattle.step.specs.declared.Plan.the-variants as plan
@@ -28,6 +26,7 @@ use Rattle.step.specs.declared.StepAnswer.the-variants.{Done, Refused}
 use Rattle.step.specs.Plan.{actPlan}
 use Rattle.step.specs.Step.{Ready, advancedBy, stepOf}
 use Rattle.step.proofs.PlanLaws.{says, plan-ready}
+use Rattle.step.proofs.KeepLaws.{pathAt, nextCycle}
 use Rattle.demands.specs.History.{Moment, Act, posts, steps, noTally, next, after, Start}
 use Rattle.demands.specs.Log.{added, logOf, fits, heldAfter, phaseAfter, keepsToOwners}
 use Rattle.demands.proofs.KeptLaws.{next-kept}
@@ -47,9 +46,9 @@ ended-phase Kept ch o = refl
 ended-phase (Released h) ch o = refl
 ended-phase (Marked h) ch o = refl
 
-pub moved-phase : (path : Path) (ch : Channel) (o : ℕ) (q : Request) → movedOn path ch o q .phase ≡ ch .phase
+pub moved-phase : (ch : Channel) (o : ℕ) (c : Cycle) → movedOn ch o c .phase ≡ ch .phase
 unfolding movedOn withRequest clocked
-moved-phase path ch o q = refl
+moved-phase ch o c = refl
 
 -- what a step's answer says about the phases before and after it
 abbrev Told : Phase → StepAnswer → Phase → Type 0
@@ -60,12 +59,11 @@ module _ (setup : Setup) (ch : Channel) where
   cycle-told : (o : ℕ) → actPlan setup ch ≡ plan.Cycle o → Told (ch .phase) (advancedBy setup ch (plan.Cycle o) .answer) (advancedBy setup ch (plan.Cycle o) .channel .phase)
   unfolding cycleTurn cycleEntry
   cycle-told o e =
-      let path = pathOf setup o (requestOf ch o) in
-      let q = requestOf ch o in
+      let c = nextCycle setup ch o in
+      let ending = endingAt (pathAt setup ch o) ch c in
       let p = says setup ch (plan.Cycle o) e in (
         rw (p .0) (eq-eqb o o refl),
-        ended-phase (endingOf path (ch .asked) (ch .clock + path .time) (restAfter path q)) (movedOn path ch o q) o
-            ∙ ap (λ (x : Phase). heldAfter x (endingOf path (ch .asked) (ch .clock + path .time) (restAfter path q))) (moved-phase path ch o q),
+        ended-phase ending (movedOn ch o c) o ∙ ap (λ (x : Phase). heldAfter x ending) (moved-phase ch o c),
       )
 
   grant-told : (w : ℕ) → actPlan setup ch ≡ plan.Grant w → Told (ch .phase) (advancedBy setup ch (plan.Grant w) .answer) (advancedBy setup ch (plan.Grant w) .channel .phase)
@@ -90,7 +88,7 @@ front before (Done entry) later log t k = rw (t .0) (rw (t .1) at k)
 front before (Refused why) later log t k = rw t at k
 
 step-told : (setup : Setup) (m : Moment) → Start setup m
-    → Told (m .channel .phase) (stepOf setup (m .channel) noTally (length (m .slave)) (length (m .master)) .answer) (next setup m steps .channel .phase)
+    → Told (m .channel .phase) (stepOf setup (m .channel) noTally (m .slave) (m .master) .answer) (next setup m steps .channel .phase)
 unfolding stepOf
 step-told setup m s =
     let ch = m .channel in
@@ -110,6 +108,6 @@ only-owners setup m (posts p ∷ acts) s =
     let k = only-owners setup (next setup m (posts p)) acts (next-kept setup m (posts p) s) in
     rw (post-phase setup m p) at k
 only-owners setup m (steps ∷ acts) s =
-    front (m .channel .phase) (stepOf setup (m .channel) noTally (length (m .slave)) (length (m .master)) .answer)
+    front (m .channel .phase) (stepOf setup (m .channel) noTally (m .slave) (m .master) .answer)
     (next setup m steps .channel .phase) (logOf setup (next setup m steps) acts) (step-told setup m s)
     (only-owners setup (next setup m steps) acts (next-kept setup m steps s))

@@ -30,13 +30,13 @@ refused-channel setup ch (plan.Cycle o) why e = let z : _≡_ {A = ℕ} 0 1 = cc
 
 -- what a refused step gives back, whatever it was refused for
 pub record Unchanged (setup : Setup) (ch : Channel) (t : Tally) (s m : List ℕ) : Type 0 where
-  pub channel : stepOf setup ch t (length s) (length m) .channel ≡ ch
-  pub tally : stepOf setup ch t (length s) (length m) .tally ≡ t
+  pub channel : stepOf setup ch t s m .channel ≡ ch
+  pub tally : stepOf setup ch t s m .tally ≡ t
   pub slave : slaveAfter setup ch s m ≡ s
   pub master : masterAfter setup ch s m ≡ m
 
 pub refused-step : (setup : Setup) (ch : Channel) (t : Tally) (slave master : List ℕ) (why : Refusal)
-    → stepOf setup ch t (length slave) (length master) .answer ≡ Refused why → Unchanged setup ch t slave master
+    → stepOf setup ch t slave master .answer ≡ Refused why → Unchanged setup ch t slave master
 unfolding stepOf slaveAfter masterAfter
 refused-step setup ch t slave master why e =
     let k = refused-still setup ch (planOf setup ch (length slave) (length master)) why slave master e in
@@ -47,7 +47,7 @@ pub refused-post : (setup : Setup) (m : Moment) (p : Order) → isAccepted (post
 refused-post setup m p e = rw (refused-same setup (m .channel) p e)
 
 pub refused-steps : (setup : Setup) (m : Moment) (why : Refusal)
-    → stepOf setup (m .channel) noTally (length (m .slave)) (length (m .master)) .answer ≡ Refused why → next setup m steps ≡ m
+    → stepOf setup (m .channel) noTally (m .slave) (m .master) .answer ≡ Refused why → next setup m steps ≡ m
 refused-steps setup m why e =
     let k = refused-step setup (m .channel) noTally (m .slave) (m .master) why e in
     rw (k .channel, k .slave, k .master)

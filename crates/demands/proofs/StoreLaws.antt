@@ -19,12 +19,12 @@ use Rattle.channel.specs.Channel.{requestOf}
 use Rattle.sound.proofs.SoundFacts.{sound-is}
 use Rattle.sound.proofs.RequestFacts.{Fits, fits-is}
 use Rattle.act.specs.declared.Path.{Path}
-use Rattle.act.specs.Cycle.{pathOf, cycleBytes, cycleEntry, cycleTurn}
+use Rattle.act.specs.Cycle.{pathOf, cycleBytes, cycleOf, cycleEntry, cycleTurn}
 use Rattle.act.specs.Turn.{grantTurn, leaveTurn}
 use Rattle.step.specs.declared.Plan.{Plan}
 use Rattle.step.specs.declared.Plan.the-variants as plan
 use Rattle.step.specs.Plan.{actPlan, planOf}
-use Rattle.step.specs.Step.{Ready, Roomy, advancedBy, stepOf, placeFor, movedSlave, movedMaster, slaveBy, masterBy, slaveAfter, masterAfter}
+use Rattle.step.specs.Step.{Ready, Roomy, advancedBy, stepOf, carryOf, movedSlave, movedMaster, slaveBy, masterBy, slaveAfter, masterAfter}
 use Rattle.step.proofs.PlanLaws.{says, planned-roomy, plan-ready}
 use Rattle.demands.specs.History.{Moment, Act, posts, steps, noTally, next, after, Start}
 use Rattle.demands.specs.Bytes.{Byte, further, bytesFrom, firstByte, carried}
@@ -184,24 +184,24 @@ module _ (setup : Setup) (m : Moment) (s : Start setup m) (o : ℕ) (e : actPlan
   room : Roomy path q (length (m .slave)) (length (m .master))
   room = planned-roomy setup (m .channel) o (length (m .slave)) (length (m .master)) ready e
 
-  fits : Fits setup q
+  fits : Fits setup o q
   fits =
       let p = says setup (m .channel) (plan.Cycle o) e in
       let k = sound-is setup (m .channel) (s .sound) .settled in
-      fits-is setup q (k .request o (omega (arith, k .owner o (p .0) .small)) (rw (p .1)) .1)
+      fits-is setup o q (k .request o (omega (arith, k .owner o (p .0) .small)) (rw (p .1)) .1)
 
   -- where the cycle's bytes begin on each side, and that they lie there one after the other, inside the store
   abbrev begins : Side → ℕ
-  begins slaves = placeFor path q
-  begins masters = q .offset
+  begins slaves = carryOf path q .place
+  begins masters = carryOf path q .offset
 
   ends : (side : Side) → EndsFrom setup side n (begins side) (firstByte q)
-  unfolding placeFor pathOf
+  unfolding carryOf pathOf
   ends slaves i h = places (setup .slaves) (framed-slaves setup (s .framed)) (q .space) (q .address) (q .left) _ _ i (fits .found) (omega arith) .0
   ends masters i h = refl
 
   inside : (side : Side) → begins side + n ≤ length (storeOf side m)
-  unfolding placeFor
+  unfolding carryOf
   inside slaves = omega (arith, room .slave)
   inside masters = omega (arith, room .master)
 
@@ -213,7 +213,7 @@ module _ (setup : Setup) (m : Moment) (s : Start setup m) (o : ℕ) (e : actPlan
 
   copies : (side : Side) → storeBy setup m (plan.Cycle o) side
       ≡ cond (goesTo side (firstByte q)) (paste (storeOf side m) (begins side) (drop (begins (across side)) (storeOf (across side) m)) n) (storeOf side m)
-  unfolding movedSlave movedMaster
+  unfolding movedSlave movedMaster carryOf
   copies slaves = rw write-only (by-test (eqb (q .direction) 0) (λ t. rw t) (λ f. rw f))
   copies masters = refl
 
@@ -232,7 +232,7 @@ module _ (setup : Setup) (m : Moment) (s : Start setup m) (o : ℕ) (e : actPlan
 by-plan : (setup : Setup) (m : Moment) (side : Side) (x : ℕ) → Start setup m → (p : Plan) → actPlan setup (m .channel) ≡ p
     → getD (storeBy setup m p side) x 0
     ≡ brought side x m (broughtFrom m (sourceIn setup side x (carried (m .channel) (advancedBy setup (m .channel) p .answer))))
-unfolding grantTurn leaveTurn cycleTurn cycleEntry
+unfolding grantTurn leaveTurn cycleTurn cycleEntry cycleOf
 by-plan setup m slaves x s plan.Idle e = refl
 by-plan setup m masters x s plan.Idle e = refl
 by-plan setup m slaves x s (plan.Refused why) e = refl
@@ -247,7 +247,7 @@ by-step : (setup : Setup) (m : Moment) (side : Side) (x : ℕ) → Start setup m
     → getD (storeBy setup m (planOf setup (m .channel) (length (m .slave)) (length (m .master))) side) x 0
     ≡ brought side x m
     (broughtFrom m
-    (sourceIn setup side x (carried (m .channel) (stepOf setup (m .channel) noTally (length (m .slave)) (length (m .master)) .answer))))
+    (sourceIn setup side x (carried (m .channel) (stepOf setup (m .channel) noTally (m .slave) (m .master) .answer))))
 unfolding stepOf
 by-step setup m side x s =
     let r : Ready setup (m .channel) (length (m .slave)) (length (m .master))

@@ -17,21 +17,22 @@ use Rattle.channel.specs.declared.Request.{Request}
 use Rattle.channel.specs.Channel.{hasRequest, requestOf, withRequest, Shaped}
 use Rattle.channel.specs.Line.{cleared, timed, lineRule}
 use Rattle.channel.proofs.RequestLaws.{request-other}
-use Rattle.sound.specs.Rows.{slaveOf}
+use Rattle.channel.specs.Slave.{slaveOf}
 use Rattle.sound.specs.Sound.{clockLimit}
 use Rattle.sound.proofs.SoundFacts.{Sound, sound-is, accepted-is}
 use Rattle.post.specs.declared.Order.{Order}
 use Rattle.post.specs.Post.{requestIn, postVerdict, posted, postOf}
 use Rattle.post.proofs.PostLaws.{allowed}
-use Rattle.act.specs.declared.Ending.the-variants.{Kept}
 use Rattle.act.specs.declared.Entry.{Entry}
-use Rattle.act.specs.Cycle.{pathOf, endingOf, isLeaving, movedOn, cycleBytes, cycleEntry, cycleTurn}
+use Rattle.act.specs.declared.Entry.the-variants.{Cycle as CycleLine}
+use Rattle.act.specs.Cycle.{pathOf, cycleBytes, cycleOf, movedOn, cycleEntry, cycleTurn}
+use Rattle.act.proofs.EndingLaws.{kept-inside}
 use Rattle.step.specs.declared.Plan.{Plan}
 use Rattle.step.specs.declared.Plan.the-variants as plan
 use Rattle.step.specs.Plan.{actPlan}
 use Rattle.step.specs.Step.{Ready, advancedBy, stepOf}
 use Rattle.step.proofs.PlanLaws.{says, plan-ready}
-use Rattle.step.proofs.KeepLaws.{goes-on}
+use Rattle.step.proofs.KeepLaws.{pathAt, nextCycle, clockAt, restAt, here}
 use Rattle.demands.specs.History.{Moment, Act, posts, steps, noTally, next, Start}
 use Rattle.demands.specs.Log.{added, logOf, isNextCycle, restOf, endsTransfer, runsOn}
 use Rattle.demands.proofs.KeptLaws.{next-kept}
@@ -73,29 +74,35 @@ module _ (setup : Setup) (framed : isFramed setup ≡ true) (ch : Channel) (shap
   left-open : (left : ℕ) (b : Bool) → (eqb left 0 || b) ≡ false → eqb left 0 ≡ false
   left-open left b e = by-test (eqb left 0) (λ t. absurd (false≢true (sym (rw t at e)))) (λ f. f)
 
-  kept-ending : (clock : ℕ) → endsTransfer setup o (requestOf ch o) ≡ false
-      → endingOf (pathOf setup o (requestOf ch o)) (ch .asked) clock (restOf setup o (requestOf ch o)) ≡ Kept
-  unfolding endingOf isLeaving
-  kept-ending clock n = rw n
+  -- the log's words for the next cycle are those of the cycle itself
+  cycle-words : isNextCycle setup o (requestOf ch o) (CycleLine (cycleEntry (pathAt setup ch o) ch o (requestOf ch o .direction) (nextCycle setup ch o))) ≡ true
+  unfolding cycleEntry cycleOf
+  cycle-words =
+      let q = requestOf ch o in
+      rw (eq-eqb o o refl, eq-eqb (q .address) (q .address) refl, eq-eqb (cycleBytes (pathOf setup o q) q) (cycleBytes (pathOf setup o q) q) refl)
+
+  rest-words : restAt setup ch o ≡ restOf setup o (requestOf ch o)
+  unfolding cycleOf
+  rest-words = refl
+
+  ends-words : nextCycle setup ch o .ends ≡ endsTransfer setup o (requestOf ch o)
+  unfolding cycleOf
+  ends-words = refl
 
   cycle-on : ch .clock + slaveOf (setup .slaves) (requestOf ch o) .time ≤ clockLimit → endsTransfer setup o (requestOf ch o) ≡ false
       → (advancedBy setup ch (plan.Cycle o) .channel .phase ≡ Granted o)
       × (requestOf (advancedBy setup ch (plan.Cycle o) .channel) o ≡ restOf setup o (requestOf ch o))
   unfolding cycleTurn
   cycle-on room n =
-      let path = pathOf setup o (requestOf ch o) in
-      let q = requestOf ch o in
-      rw (kept-ending (ch .clock + path .time) n) (
-        rule-phase (movedOn path ch o q) ∙ moved-phase path ch o q ∙ phase,
-        rule-request (movedOn path ch o q) o
-            ∙ goes-on setup framed ch shaped s o phase asks room (left-open (restOf setup o q .left) _ n) o refl,
+      let c = nextCycle setup ch o in
+      rw (kept-inside (pathAt setup ch o) (ch .asked) (clockAt setup ch o) c (ends-words ∙ n)) (
+        rule-phase (movedOn ch o c) ∙ moved-phase ch o c ∙ phase,
+        rule-request (movedOn ch o c) o ∙ here setup framed ch shaped s o phase asks room o refl ∙ rest-words,
       )
 
-  next-cycle : isNextCycle setup o (requestOf ch o) (cycleTurn (pathOf setup o (requestOf ch o)) ch o (requestOf ch o) .entry) ≡ true
-  unfolding cycleTurn cycleEntry
-  next-cycle =
-      let q = requestOf ch o in
-      rw (eq-eqb o o refl, eq-eqb (q .address) (q .address) refl, eq-eqb (cycleBytes (pathOf setup o q) q) (cycleBytes (pathOf setup o q) q) refl)
+  next-cycle : isNextCycle setup o (requestOf ch o) (cycleTurn (pathAt setup ch o) ch o (requestOf ch o .direction) (nextCycle setup ch o) .entry) ≡ true
+  unfolding cycleTurn
+  next-cycle = cycle-words
 
   cycle-whole : ch .clock + slaveOf (setup .slaves) (requestOf ch o) .time ≤ clockLimit → Goes (advancedBy setup ch (plan.Cycle o) .channel)
       → runsOn setup o (requestOf ch o) (added (advancedBy setup ch (plan.Cycle o) .answer) log) ≡ true
@@ -136,7 +143,7 @@ step-whole : (setup : Setup) (m : Moment) (o : ℕ) (log : List Entry) → Start
     → hasRequest (m .channel .left) o ≡ true
     → (next setup m steps .channel .phase ≡ Granted o → hasRequest (next setup m steps .channel .left) o ≡ true
     → runsOn setup o (requestOf (next setup m steps .channel) o) log ≡ true)
-    → runsOn setup o (requestOf (m .channel) o) (added (stepOf setup (m .channel) noTally (length (m .slave)) (length (m .master)) .answer) log) ≡ true
+    → runsOn setup o (requestOf (m .channel) o) (added (stepOf setup (m .channel) noTally (m .slave) (m .master) .answer) log) ≡ true
 unfolding stepOf
 step-whole setup m o log s f h on =
     let ch = m .channel in

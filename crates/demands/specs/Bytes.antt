@@ -2,7 +2,6 @@
 use Prim.Native.Nat.{ℕ, zero, suc, _+_}
 use mathlib.Core.Bool.{Bool, false, cond, _&&_}
 use mathlib.Core.List.{List, [], _∷_, _++_}
-use lib.ListN.{length}
 use lib.Dec.{eqb}
 use Rattle.refusal.specs.Refusal.{isAccepted}
 use Rattle.frame.specs.declared.Setup.{Setup}
@@ -77,7 +76,7 @@ movedFor ch l (Done entry) = cond (isCycleOf l entry) (carriedIn ch entry) []
 movedFor ch l (Refused why) = []
 
 abbrev pub answerAt : Setup → Moment → StepAnswer
-answerAt setup m = stepOf setup (m .channel) noTally (length (m .slave)) (length (m .master)) .answer
+answerAt setup m = stepOf setup (m .channel) noTally (m .slave) (m .master) .answer
 
 abbrev pub movedBy : Setup → Moment → ℕ → Act → List Byte
 movedBy setup m l (posts p) = []

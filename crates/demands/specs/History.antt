@@ -35,7 +35,7 @@ abbrev pub next : Setup → Moment → Act → Moment
 next setup m (posts p) = record { channel = postOf setup (m .channel) p .channel; slave = m .slave; master = m .master }
 next setup m steps =
     record {
-      channel = stepOf setup (m .channel) noTally (length (m .slave)) (length (m .master)) .channel;
+      channel = stepOf setup (m .channel) noTally (m .slave) (m .master) .channel;
       slave = slaveAfter setup (m .channel) (m .slave) (m .master);
       master = masterAfter setup (m .channel) (m .slave) (m .master);
     }

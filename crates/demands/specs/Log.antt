@@ -2,7 +2,6 @@
 use Prim.Native.Nat.{ℕ}
 use mathlib.Core.Bool.{Bool, true, false, _&&_, _||_}
 use mathlib.Core.List.{List, [], _∷_}
-use lib.ListN.{length}
 use lib.Dec.{eqb}
 use Rattle.frame.specs.declared.Setup.{Setup}
 use Rattle.channel.specs.declared.Phase.{Phase}
@@ -28,7 +27,7 @@ abbrev pub logOf : Setup → Moment → List Act → List Entry
 logOf setup m [] = []
 logOf setup m (posts p ∷ acts) = logOf setup (next setup m (posts p)) acts
 logOf setup m (steps ∷ acts) =
-    added (stepOf setup (m .channel) noTally (length (m .slave)) (length (m .master)) .answer) (logOf setup (next setup m steps) acts)
+    added (stepOf setup (m .channel) noTally (m .slave) (m .master) .answer) (logOf setup (next setup m steps) acts)
 
 -- who may be logged now: a grant only when nobody owns the channel, a cycle or a release only of the owner
 abbrev pub fits : Phase → Entry → Bool
@@ -68,7 +67,7 @@ isNextCycle setup owner q (Cycle entry) =
 isNextCycle setup owner q (Release clock level hold) = false
 
 abbrev pub restOf : Setup → ℕ → Request → Request
-restOf setup owner q = restAfter (pathOf setup owner q) q
+restOf setup owner q = restAfter q (cycleBytes (pathOf setup owner q) q)
 
 abbrev pub endsTransfer : Setup → ℕ → Request → Bool
 endsTransfer setup owner q = isTransferEnd (pathOf setup owner q .width) (restOf setup owner q .address) (restOf setup owner q .left)

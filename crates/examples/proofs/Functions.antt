@@ -16,18 +16,17 @@ use Rattle.number.proofs as number
 use Rattle.cycle.proofs as cycle
 use Rattle.frame.proofs as frame
 use Rattle.channel.proofs as channel
+use Rattle.act.proofs as act
 use Rattle.sound.proofs as sound
 use Rattle.post.proofs as post
-use Rattle.act.proofs as act
 use Rattle.tally.proofs as tally
 use Rattle.step.proofs as step
-use Rattle.run.proofs as run
 use Rattle.lent.proofs as lent
 use Rattle.logline.proofs as logline
 use Rattle.sheet.proofs as sheet
 use Rattle.sheetlist.proofs as sheetlist
 use Rattle.examples.proofs.Unique as unique
-use Rattle.examples.proofs.Unique.{Contract, alone, only-lent, lent-one, lent-two, lent-three, besides}
+use Rattle.examples.proofs.Unique.{Contract, alone, only-lent, only-two, lent-one, lent-two, lent-three, besides}
 
 module _ {M : Type 1} (𝓤 : URA M) (H : Heap 𝓤) (A : Atoms 𝓤) (mem : Memory → SProp 𝓤) (call : Routine → Fun 𝓤) where
   abbrev One : (T : Ended) → Contract M T → Type 1
@@ -46,13 +45,11 @@ module _ {M : Type 1} (𝓤 : URA M) (H : Heap 𝓤) (A : Atoms 𝓤) (mem : Mem
       × One basics.less.ended basics.less.clauses
       × One basics.remainder.ended basics.remainder.clauses
       × One basics.quotient.ended basics.quotient.clauses
-      × One basics.move_bytes.ended basics.move_bytes.clauses
   of-basics = (
     λ κs a g. alone 𝓤 _ (λ v w. refl),
     λ κs a g. alone 𝓤 _ (λ v w. refl),
     λ κs a g. alone 𝓤 _ (λ v w. refl),
     λ κs a g. alone 𝓤 _ (λ v w. refl),
-    λ κs a g. only-lent 𝓤 _ (λ ws. ws .1 .1 .0) (λ v w p i. (tt, (tt, (p i, (tt, (tt, tt)))))),
   )
 
   of-number : One number.read_number.ended number.read_number.clauses
@@ -68,6 +65,7 @@ module _ {M : Type 1} (𝓤 : URA M) (H : Heap 𝓤) (A : Atoms 𝓤) (mem : Mem
       × One cycle.is_port.ended cycle.is_port.clauses
       × One cycle.is_length.ended cycle.is_length.clauses
       × One cycle.narrow.ended cycle.narrow.clauses
+      × One cycle.tabled.ended cycle.tabled.clauses
       × One cycle.cycle_length.ended cycle.cycle_length.clauses
       × One cycle.transfer_length.ended cycle.transfer_length.clauses
       × One cycle.is_transfer_end.ended cycle.is_transfer_end.clauses
@@ -89,21 +87,40 @@ module _ {M : Type 1} (𝓤 : URA M) (H : Heap 𝓤) (A : Atoms 𝓤) (mem : Mem
     λ κs a g. alone 𝓤 _ (λ v w. refl),
     λ κs a g. alone 𝓤 _ (λ v w. refl),
     λ κs a g. alone 𝓤 _ (λ v w. refl),
+    λ κs a g. alone 𝓤 _ (λ v w. refl),
   )
 
-  of-frame : One frame.is_row_count.ended frame.is_row_count.clauses
+  of-frame : One frame.allowance_of.ended frame.allowance_of.clauses
+      × One frame.is_within.ended frame.is_within.clauses
+      × One frame.is_row_count.ended frame.is_row_count.clauses
       × One frame.is_master_length.ended frame.is_master_length.clauses
+      × One frame.level_fits.ended frame.level_fits.clauses
       × One frame.level_row_fits.ended frame.level_row_fits.clauses
       × One frame.levels_fit.ended frame.levels_fit.clauses
       × One frame.slave_row_fits.ended frame.slave_row_fits.clauses
+      × One frame.slave_store.ended frame.slave_store.clauses
       × One frame.framed_store.ended frame.framed_store.clauses
       × One frame.is_framed.ended frame.is_framed.clauses
+      × One frame.has_burst.ended frame.has_burst.clauses
+      × One frame.is_fair.ended frame.is_fair.clauses
+      × One frame.has_linger.ended frame.has_linger.clauses
       × One frame.level_row.ended frame.level_row.clauses
+      × One frame.is_present.ended frame.is_present.clauses
+      × One frame.level_of.ended frame.level_of.clauses
       × One frame.row_holds.ended frame.row_holds.clauses
       × One frame.slave_row.ended frame.slave_row.clauses
       × One frame.slave_store_length.ended frame.slave_store_length.clauses
       × One frame.place_of.ended frame.place_of.clauses
   of-frame = (
+    λ κs a g. alone 𝓤 _ (λ v w. refl),
+    λ κs a g. alone 𝓤 _ (λ v w. refl),
+    λ κs a g. alone 𝓤 _ (λ v w. refl),
+    λ κs a g. alone 𝓤 _ (λ v w. refl),
+    λ κs a g. alone 𝓤 _ (λ v w. refl),
+    λ κs a g. alone 𝓤 _ (λ v w. refl),
+    λ κs a g. alone 𝓤 _ (λ v w. refl),
+    λ κs a g. alone 𝓤 _ (λ v w. refl),
+    λ κs a g. alone 𝓤 _ (λ v w. refl),
     λ κs a g. alone 𝓤 _ (λ v w. refl),
     λ κs a g. alone 𝓤 _ (λ v w. refl),
     λ κs a g. alone 𝓤 _ (λ v w. refl),
@@ -120,8 +137,10 @@ module _ {M : Type 1} (𝓤 : URA M) (H : Heap 𝓤) (A : Atoms 𝓤) (mem : Mem
 
   of-channel : One channel.owner_of.ended channel.owner_of.clauses
       × One channel.place_of.ended channel.place_of.clauses
+      × One channel.no_request.ended channel.no_request.clauses
       × One channel.request_of.ended channel.request_of.clauses
       × One channel.put_request.ended channel.put_request.clauses
+      × One channel.slave_of.ended channel.slave_of.clauses
       × One channel.line_active.ended channel.line_active.clauses
       × One channel.winner_of.ended channel.winner_of.clauses
       × One channel.asked_if.ended channel.asked_if.clauses
@@ -139,42 +158,12 @@ module _ {M : Type 1} (𝓤 : URA M) (H : Heap 𝓤) (A : Atoms 𝓤) (mem : Mem
     λ κs a g. alone 𝓤 _ (λ v w. refl),
     λ κs a g. alone 𝓤 _ (λ v w. refl),
     λ κs a g. alone 𝓤 _ (λ v w. refl),
-  )
-
-  of-sound : One sound.is_present.ended sound.is_present.clauses
-      × One sound.level_of.ended sound.level_of.clauses
-      × One sound.slave_of.ended sound.slave_of.clauses
-      × One sound.has_burst.ended sound.has_burst.clauses
-      × One sound.is_fair.ended sound.is_fair.clauses
-      × One sound.has_linger.ended sound.has_linger.clauses
-      × One sound.request_verdict.ended sound.request_verdict.clauses
-      × One sound.transfer_of.ended sound.transfer_of.clauses
-      × One sound.allowance_of.ended sound.allowance_of.clauses
-      × One sound.is_within.ended sound.is_within.clauses
-      × One sound.is_sound.ended sound.is_sound.clauses
-  of-sound = (
-    λ κs a g. alone 𝓤 _ (λ v w. refl),
-    λ κs a g. alone 𝓤 _ (λ v w. refl),
-    λ κs a g. alone 𝓤 _ (λ v w. refl),
-    λ κs a g. alone 𝓤 _ (λ v w. refl),
-    λ κs a g. alone 𝓤 _ (λ v w. refl),
-    λ κs a g. alone 𝓤 _ (λ v w. refl),
-    λ κs a g. alone 𝓤 _ (λ v w. refl),
-    λ κs a g. alone 𝓤 _ (λ v w. refl),
-    λ κs a g. alone 𝓤 _ (λ v w. refl),
     λ κs a g. alone 𝓤 _ (λ v w. refl),
     λ κs a g. alone 𝓤 _ (λ v w. refl),
   )
-
-  of-post : One post.post.ended post.post.clauses
-  of-post = λ κs a g. alone 𝓤 _ (λ v w. refl)
 
   of-act : One act.path_of.ended act.path_of.clauses
-      × One act.slot_after.ended act.slot_after.clauses
-      × One act.is_late.ended act.is_late.clauses
-      × One act.is_leaving.ended act.is_leaving.clauses
       × One act.released_by.ended act.released_by.clauses
-      × One act.ending_of.ended act.ending_of.clauses
       × One act.is_kept.ended act.is_kept.clauses
       × One act.is_marked.ended act.is_marked.clauses
       × One act.arbitration_time.ended act.arbitration_time.clauses
@@ -184,11 +173,21 @@ module _ {M : Type 1} (𝓤 : URA M) (H : Heap 𝓤) (A : Atoms 𝓤) (mem : Mem
     λ κs a g. alone 𝓤 _ (λ v w. refl),
     λ κs a g. alone 𝓤 _ (λ v w. refl),
     λ κs a g. alone 𝓤 _ (λ v w. refl),
+  )
+
+  of-sound : One sound.request_verdict.ended sound.request_verdict.clauses
+      × One sound.transfer_of.ended sound.transfer_of.clauses
+      × One sound.is_sound.ended sound.is_sound.clauses
+      × One sound.sound_store.ended sound.sound_store.clauses
+  of-sound = (
     λ κs a g. alone 𝓤 _ (λ v w. refl),
     λ κs a g. alone 𝓤 _ (λ v w. refl),
     λ κs a g. alone 𝓤 _ (λ v w. refl),
     λ κs a g. alone 𝓤 _ (λ v w. refl),
   )
+
+  of-post : One post.post.ended post.post.clauses
+  of-post = λ κs a g. alone 𝓤 _ (λ v w. refl)
 
   of-tally : One tally.add_grant.ended tally.add_grant.clauses
       × One tally.add_cycle.ended tally.add_cycle.clauses
@@ -205,15 +204,18 @@ module _ {M : Type 1} (𝓤 : URA M) (H : Heap 𝓤) (A : Atoms 𝓤) (mem : Mem
 
   of-step : One step.ready_verdict.ended step.ready_verdict.clauses
       × One step.plan_of.ended step.plan_of.clauses
+      × One step.decide.ended step.decide.clauses
+      × One step.carry_bytes.ended step.carry_bytes.clauses
       × One step.step.ended step.step.clauses
+      × One step.run.ended step.run.clauses
   of-step = (
     λ κs a g. alone 𝓤 _ (λ v w. refl),
     λ κs a g. alone 𝓤 _ (λ v w. refl),
+    λ κs a g. alone 𝓤 _ (λ v w. refl),
+    λ κs a g. only-two 𝓤 _ _ (λ ws. ws .1 .0) (λ ws. ws .1 .1 .0) (λ v w p q i. (tt, (p i, (q i, tt)))),
     λ κs a g. lent-two 𝓤 _ _ _ (λ ws. ws .1 .1 .1 .0) (λ ws. ws .1 .1 .1 .1 .0) (λ v w p q i. (tt, (tt, (tt, (p i, (q i, tt)))))),
+    λ κs a g. lent-two 𝓤 _ _ _ (λ ws. ws .1 .1 .1 .0) (λ ws. ws .1 .1 .1 .1 .0) (λ v w p q i. (tt, (tt, (tt, (p i, (q i, (tt, tt))))))),
   )
-
-  of-run : One run.run.ended run.run.clauses
-  of-run = λ κs a g. lent-two 𝓤 _ _ _ (λ ws. ws .1 .1 .1 .0) (λ ws. ws .1 .1 .1 .1 .0) (λ v w p q i. (tt, (tt, (tt, (p i, (q i, (tt, tt)))))))
 
   of-lent : One lent.step.ended lent.step.clauses
       × One lent.run.ended lent.run.clauses

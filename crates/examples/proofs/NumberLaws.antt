@@ -17,13 +17,14 @@ use Rattle.refusal.proofs.NumberLaws.{not-zero}
 use Rattle.number.specs.Number.{hasRoom, writtenAt, writtenNumbers}
 use Rattle.cycle.specs.Cycle.{isLength, isWidth, isPort, cycleCount}
 use Rattle.frame.specs.declared.Setup.{Setup}
+use Rattle.frame.specs.Rows.{isPresent}
 use Rattle.channel.specs.declared.Phase.{Phase}
 use Rattle.channel.specs.declared.Phase.the-variants.{Arbitrating, Granted}
 use Rattle.channel.specs.declared.Channel.{Channel}
 use Rattle.channel.specs.declared.Request.{Request}
 use Rattle.channel.specs.Channel.{Shaped, setUp, hasRequest, requestOf}
 use Rattle.channel.specs.Line.{line, winner}
-use Rattle.sound.specs.Rows.{isPresent, slaveOf}
+use Rattle.channel.specs.Slave.{slaveOf}
 use Rattle.sound.specs.Request.{requestVerdict}
 use Rattle.post.specs.declared.Order.{Order}
 use Rattle.post.specs.Post.{requestIn, postVerdict, postOf}
@@ -36,7 +37,7 @@ use Rattle.step.specs.declared.StepAnswer.the-variants.{Done, Refused as NotDon
 use Rattle.step.specs.Plan.{readyVerdict, planBy, planOf, ownerPlan, actPlan, phasePlan}
 use Rattle.step.specs.Step.{planNumbers, stepNumbers, advancedBy, stepOf}
 use Rattle.step.proofs.PlanLaws.{ready-is}
-use Rattle.run.specs.Run.{World, Out, ended, stepIn, after, goOn, runFrom, runOf}
+use Rattle.step.specs.Run.{World, Out, ended, stepIn, after, goOn, runFrom, runOf}
 use Rattle.demands.specs.History.{Moment, Start, steps}
 use Rattle.demands.proofs.KeptLaws.{next-kept}
 use Rattle.sheet.specs.declared.Judged.{Judged}
@@ -79,9 +80,9 @@ pub set-up-number : (setup : Setup) → verdictNumber (setUp setup .verdict) ≡
 unfolding setUp
 set-up-number setup = rows-number (broken setup ∷ []) [] Accepted refl refl
 
-pub request-number : (setup : Setup) (q : Request) → verdictNumber (requestVerdict setup q) ≡ firstOf (requestRows setup q)
+pub request-number : (setup : Setup) (l : ℕ) (q : Request) → verdictNumber (requestVerdict setup l q) ≡ firstOf (requestRows setup q)
 unfolding requestVerdict
-request-number setup q = rows-number (requestRows setup q) [] Accepted refl refl
+request-number setup l q = rows-number (requestRows setup q) [] Accepted refl refl
 
 pub post-number : (setup : Setup) (ch : Channel) (p : Order) → verdictNumber (postOf setup ch p .verdict) ≡ firstOf (postRows setup ch p)
 unfolding postOf postVerdict
@@ -89,9 +90,9 @@ post-number setup ch p =
     rows-number
     (unsound setup ch ∷ (1, not (isPresent (setup .levels) (p .level))) ∷ (2, hasRequest (ch .left) (p .level)) ∷ [])
     (requestRows setup (requestIn p))
-    (requestVerdict setup (requestIn p))
+    (requestVerdict setup (p .level) (requestIn p))
     refl
-    (request-number setup (requestIn p))
+    (request-number setup (p .level) (requestIn p))
 
 pub count-number : (a n w p : ℕ) → verdictNumber (cycleCount a n w p .verdict) ≡ firstOf (countRows a n w p)
 unfolding cycleCount
@@ -143,10 +144,11 @@ as-planned setup ch (plan.Grant w) = refl
 as-planned setup ch (plan.Leave o) = refl
 as-planned setup ch (plan.Cycle o) = refl
 
-pub step-number : (setup : Setup) (ch : Channel) (t : Tally) (slave master : ℕ)
-    → first (stepNumbers (stepOf setup ch t slave master .answer)) ≡ firstOf (stepRows setup ch slave master)
+pub step-number : (setup : Setup) (ch : Channel) (t : Tally) (slave master : List ℕ)
+    → first (stepNumbers (stepOf setup ch t slave master .answer)) ≡ firstOf (stepRows setup ch (length slave) (length master))
 unfolding stepOf
-step-number setup ch t slave master = as-planned setup ch (planOf setup ch slave master) ∙ plan-number setup ch slave master
+step-number setup ch t slave master =
+    as-planned setup ch (planOf setup ch (length slave) (length master)) ∙ plan-number setup ch (length slave) (length master)
 
 pub written-told : (s : List ℕ) (at v : ℕ) → writtenNumbers (writtenAt s at v) ≡ writtenTold s at v
 unfolding writtenAt
@@ -171,7 +173,7 @@ module _ (setup : Setup) (w : World) (s : Start setup (momentOf w)) where
   only-six why q =
       let e : numberOf why ≡ firstOf ((6, passes setup (w .channel) (w .channel .phase)) ∷ []) =
       ap (λ a. first (stepNumbers a)) (sym q)
-      ∙ step-number setup (w .channel) (w .tally) (length (w .slave)) (length (w .master))
+      ∙ step-number setup (w .channel) (w .tally) (w .slave) (w .master)
       ∙ ready-rows in
       by-test (passes setup (w .channel) (w .channel .phase)) (λ t. rw t at e) (λ f. absurd (not-zero why (rw f at e)))
 

@@ -25,9 +25,10 @@ use Rattle.channel.specs.declared.Judged.{Judged}
 use Rattle.channel.specs.Channel.{Shaped}
 use Rattle.step.specs.declared.Plan.{Plan}
 use Rattle.step.specs.declared.Stepped.{Stepped}
-use Rattle.step.specs.Step.{planNumbers, stepNumbers}
-use Rattle.run.specs.declared.Ran.{Ran}
-use Rattle.run.specs.Run.{world}
+use Rattle.step.specs.declared.Decision.{Decision}
+use Rattle.step.specs.declared.Ran.{Ran}
+use Rattle.step.specs.Step.{planNumbers, stepNumbers, decisionOf}
+use Rattle.step.specs.Run.{world}
 use Rattle.sheet.specs.declared.SheetAnswer.{SheetAnswer}
 use Rattle.sheet.specs.Sheet.{sheet as judged, listAt, numbersOf, allBytes, readAnswer, writeAnswer, sheetNumbers}
 use Rattle.number.proofs as number
@@ -36,7 +37,6 @@ use Rattle.channel.proofs as channel
 use Rattle.sound.proofs as sound
 use Rattle.post.proofs as post
 use Rattle.step.proofs as step
-use Rattle.run.proofs as run
 use Rattle.lent.proofs as lent
 use Rattle.sheet.proofs as sheet
 use Rattle.examples.specs.Numbers.{
@@ -104,8 +104,8 @@ module _ {M : Type 1} (𝓤 : URA M) (H : Heap 𝓤) (A : Atoms 𝓤) (mem : Mem
       alone _ (λ (r : Judged). verdictNumber (r .verdict) ≡ _) (post-number (a .0) (a .1 .0) (a .1 .1 .0)) r
 
   of-request-verdict : Tells sound.request_verdict.ended sound.request_verdict.clauses
-      (λ κs a (r : Verdict). verdictNumber r ≡ firstOf (requestRows (a .0) (a .1 .0)))
-  of-request-verdict κs a g r ws = alone _ (λ (r : Verdict). verdictNumber r ≡ _) (request-number (a .0) (a .1 .0)) r
+      (λ κs a (r : Verdict). verdictNumber r ≡ firstOf (requestRows (a .0) (a .1 .1 .0)))
+  of-request-verdict κs a g r ws = alone _ (λ (r : Verdict). verdictNumber r ≡ _) (request-number (a .0) (a .1 .0) (a .1 .1 .0)) r
 
   of-cycle-count : Tells cycle.cycle_count.ended cycle.cycle_count.clauses
       (λ κs a (r : Counted). verdictNumber (r .verdict) ≡ firstOf (countRows (a .0) (a .1 .0) (a .1 .1 .0) (a .1 .1 .1 .0)))
@@ -123,15 +123,24 @@ module _ {M : Type 1} (𝓤 : URA M) (H : Heap 𝓤) (A : Atoms 𝓤) (mem : Mem
   of-plan-of κs a g r ws =
       alone _ (λ (r : Plan). first (planNumbers r) ≡ _) (plan-number (a .0) (a .1 .0) (a .1 .1 .0) (a .1 .1 .1 .0)) r
 
+  of-decide : Tells step.decide.ended step.decide.clauses
+      (λ κs a (r : Decision).
+      first (stepNumbers (r .stepped .answer)) ≡ firstOf
+      (stepRows (a .0) (a .1 .0) (length (a .1 .1 .1 .0 .now)) (length (a .1 .1 .1 .1 .0 .now))))
+  unfolding decisionOf
+  of-decide κs a g r ws =
+      alone _ (λ (r : Decision). first (stepNumbers (r .stepped .answer)) ≡ _)
+      (step-number (a .0) (a .1 .0) (a .1 .1 .0) (a .1 .1 .1 .0 .now) (a .1 .1 .1 .1 .0 .now)) r
+
   of-step : Tells step.step.ended step.step.clauses
       (λ κs a (r : Stepped).
       first (stepNumbers (r .answer)) ≡ firstOf (stepRows (a .0) (a .1 .0) (length (a .1 .1 .1 .0 .now)) (length (a .1 .1 .1 .1 .0 .now))))
   of-step κs a g r ws =
       lent-two _ (λ (r : Stepped). first (stepNumbers (r .answer)) ≡ _)
-      (step-number (a .0) (a .1 .0) (a .1 .1 .0) (length (a .1 .1 .1 .0 .now)) (length (a .1 .1 .1 .1 .0 .now))) r _ _
+      (step-number (a .0) (a .1 .0) (a .1 .1 .0) (a .1 .1 .1 .0 .now) (a .1 .1 .1 .1 .0 .now)) r _ _
 
   -- the arrays of a program's channel have a place for each level (`Shaped`), which the list of the logic does not know
-  of-run : Tells run.run.ended run.run.clauses
+  of-run : Tells step.run.ended step.run.clauses
       (λ κs a (r : Ran).
       Shaped (a .1 .0) → verdictNumber (r .verdict) ≡ firstOf
       (runRows (a .0) (a .1 .1 .1 .1 .1 .0) (world (a .1 .0) (a .1 .1 .0) (a .1 .1 .1 .0 .now) (a .1 .1 .1 .1 .0 .now))))
@@ -144,7 +153,7 @@ module _ {M : Type 1} (𝓤 : URA M) (H : Heap 𝓤) (A : Atoms 𝓤) (mem : Mem
       first (stepNumbers (r .answer)) ≡ firstOf (stepRows (a .0) (a .1 .0) (length (a .1 .1 .1 .0 .now)) (length (a .1 .1 .1 .1 .0 .now))))
   of-lent-step κs a g r ws =
       lent-three _ (λ (r : Stepped). first (stepNumbers (r .answer)) ≡ _)
-      (step-number (a .0) (a .1 .0) (a .1 .1 .0 .now) (length (a .1 .1 .1 .0 .now)) (length (a .1 .1 .1 .1 .0 .now))) r _ _ _
+      (step-number (a .0) (a .1 .0) (a .1 .1 .0 .now) (a .1 .1 .1 .0 .now) (a .1 .1 .1 .1 .0 .now)) r _ _ _
 
   of-lent-run : Tells lent.run.ended lent.run.clauses
       (λ κs a (r : Ran).

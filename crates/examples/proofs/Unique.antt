@@ -71,6 +71,13 @@ module _ {M : Type 1} (𝓤 : URA M) where
   only-lent b look told =
       single _ (λ r ws. look ws ≡ b) (λ r ws. id⊢ 𝓤 _) (λ r r′ ws ws′ p q. (refl, told ws ws′ (p ∙ sym q)))
 
+  pub only-two : {L B C : Type 0} (b : B) (c : C) (look : L → B) (look′ : L → C)
+      → ((v w : L) → look v ≡ look w → look′ v ≡ look′ w → v ≡ w)
+      → Single (λ (r : Unit {0}) (ws : L). sep 𝓤 (fact 𝓤 (look ws ≡ b)) (fact 𝓤 (look′ ws ≡ c)))
+  only-two b c look look′ told =
+      single _ (λ r ws. (look ws ≡ b) × (look′ ws ≡ c)) (λ r ws. both _ _)
+      (λ r r′ ws ws′ p q. (refl, told ws ws′ (p .0 ∙ sym (q .0)) (p .1 ∙ sym (q .1))))
+
   -- a second statement beside the equation widens nothing
   pub besides : {R L : Type 0} (d : R) (more : R → Type 0) → ((v w : L) → v ≡ w)
       → Single (λ (r : R) (ws : L). sep 𝓤 (fact 𝓤 (r ≡ d)) (fact 𝓤 (more r)))

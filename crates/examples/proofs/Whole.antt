@@ -28,15 +28,15 @@ use Rattle.frame.specs.Frame.{
   slavesFit,
   isFramed,
 }
+use Rattle.frame.specs.Allowance.{allowance, isWithin}
+use Rattle.frame.specs.Rows.{isPresent, levelOf}
 use Rattle.frame.specs.Find.{levelIndex, levelRow, holds, slaveIndex, slaveRow, slaveStoreLength}
 use Rattle.channel.specs.declared.Phase.the-variants.{Arbitrating, Granted}
 use Rattle.channel.specs.Channel.{fresh, hasRequest, withRequest}
 use Rattle.channel.specs.Line.{waits, drives, lineActive, asks, othersAsk, cleared, timed, winner}
-use Rattle.sound.specs.Rows.{isPresent, levelOf, slaveOf, startOf}
+use Rattle.channel.specs.Slave.{slaveOf, startOf}
 use Rattle.sound.specs.Request.{isInRange, requestVerdict, transferOf}
 use Rattle.sound.specs.Sound.{
-  allowance,
-  isWithin,
   isGrantSound,
   isOwnerSound,
   isBlank,
@@ -53,7 +53,7 @@ use Rattle.post.specs.Post.{postVerdict, posted, postOf}
 use Rattle.act.specs.Cycle.{
   pathOf,
   restAfter,
-  slotAfter,
+  cycleOf,
   isLate,
   isLeaving,
   endingOf,
@@ -66,8 +66,8 @@ use Rattle.act.specs.Cycle.{
 use Rattle.act.specs.Turn.{arbitrationTime, granted, grantTurn, leaveTurn}
 use Rattle.tally.specs.Tally.{addGrant, addCycle, addRelease}
 use Rattle.step.specs.Plan.{ownerPlan, actPlan, readyVerdict, planOf}
-use Rattle.step.specs.Step.{stepOf, placeFor, movedSlave, movedMaster, slaveAfter, masterAfter}
-use Rattle.run.specs.Run.{world, after}
+use Rattle.step.specs.Step.{stepOf, carryOf, movedSlave, movedMaster, slaveAfter, masterAfter}
+use Rattle.step.specs.Run.{world, after}
 use Rattle.act.specs.Entry.{cycleFields}
 use Rattle.number.specs.Number.{readAt, bytesOf}
 use Rattle.sheet.specs.declared.Judged.the-variants.{Good}
@@ -176,8 +176,8 @@ unfolding codes bytes
     isPresent levelOf slaveOf startOf isInRange requestVerdict transferOf allowance isWithin isGrantSound isOwnerSound isBlank isRequestSound
     areRequestsSound isMarkSound areMarksSound isInTime isAskedAt isAskedSound isSound
     postVerdict posted postOf
-    pathOf restAfter slotAfter isLate isLeaving endingOf clocked freed movedOn cycleEntry cycleTurn arbitrationTime granted grantTurn leaveTurn
-    addGrant addCycle addRelease ownerPlan actPlan readyVerdict planOf stepOf placeFor movedSlave movedMaster slaveAfter masterAfter after cycleFields
+    pathOf restAfter cycleOf isLate isLeaving endingOf clocked freed movedOn cycleEntry cycleTurn arbitrationTime granted grantTurn leaveTurn
+    addGrant addCycle addRelease ownerPlan actPlan readyVerdict planOf stepOf carryOf movedSlave movedMaster slaveAfter masterAfter after cycleFields
 computed = (
   record {
     good = refl;

@@ -9,7 +9,7 @@ use Rattle.sheetlist.specs.declared.Event.{Event}
 use Rattle.sheetlist.specs.declared.Event.the-variants.{Steps, Post}
 use Rattle.examples.specs.Printed.{behind, begun}
 use Rattle.examples.specs.Sheet.{levelRow, slaveRow, postFields}
-use Rattle.run.specs.Run.{World}
+use Rattle.step.specs.Run.{World}
 
 -- level 3 bursts and lingers; the slave has this port and this cycle time
 abbrev pub burstSetup : ℕ → ℕ → Setup

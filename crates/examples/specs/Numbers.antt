@@ -12,18 +12,19 @@ use Rattle.cycle.specs.Cycle.{isLength, isWidth, isPort}
 use Rattle.frame.specs.declared.Setup.{Setup}
 use Rattle.frame.specs.Frame.{isFramed}
 use Rattle.frame.specs.Find.{slaveStoreLength}
+use Rattle.frame.specs.Rows.{isPresent}
 use Rattle.channel.specs.declared.Phase.{Phase}
 use Rattle.channel.specs.declared.Phase.the-variants.{Arbitrating, Granted}
 use Rattle.channel.specs.declared.Channel.{Channel}
 use Rattle.channel.specs.declared.Request.{Request}
 use Rattle.channel.specs.Channel.{hasRequest, requestOf}
-use Rattle.sound.specs.Rows.{isPresent, slaveOf}
+use Rattle.channel.specs.Slave.{slaveOf}
 use Rattle.sound.specs.Request.{isInRange, isInsideSlave, isOutsideMaster}
 use Rattle.sound.specs.Sound.{isSound, clockLimit}
 use Rattle.post.specs.declared.Order.{Order}
 use Rattle.post.specs.Post.{requestIn}
 use Rattle.act.specs.Turn.{arbitrationTime}
-use Rattle.run.specs.Run.{World, runOf}
+use Rattle.step.specs.Run.{World, runOf}
 use Rattle.sheet.specs.declared.Judged.{Judged}
 use Rattle.sheet.specs.declared.Judged.the-variants.{Good, Fault}
 

@@ -12,7 +12,7 @@ use Rattle.post.specs.declared.Order.{Order}
 use Rattle.post.specs.Post.{postOf}
 use Rattle.step.specs.declared.StepAnswer.{StepAnswer}
 use Rattle.step.specs.declared.StepAnswer.the-variants.{Done, Refused}
-use Rattle.run.specs.Run.{World, world, stepIn, after}
+use Rattle.step.specs.Run.{World, world, stepIn, after}
 use Rattle.logline.specs.Line.{entryText, postText, stopText, endText, faultText}
 use Rattle.sheet.specs.declared.Judged.{Judged as Verdict}
 use Rattle.sheet.specs.declared.Judged.the-variants.{Good, Fault}

@@ -2,13 +2,12 @@
 // Each gives back what the form by value gives, and leaves the new tally behind the reference.
 use channel::Channel;
 use frame::Setup;
-use run::Ran;
+use step::Ran;
 use step::Stepped;
 use tally::Tally;
 ghost use mathlib.Core.Path.{_≡_};
-ghost use lib.ListN.{length};
-ghost use Rattle.run.specs.Run.{world, runOf};
 ghost use Rattle.step.specs.Step.{stepOf, slaveAfter, masterAfter};
+ghost use Rattle.step.specs.Run.{world, runOf};
 
 // The tally of a step's result.
 fn step_tally(stepped: Stepped) -> Tally
@@ -34,8 +33,8 @@ pub fn step(
     slave: &mut [u8],
     master: &mut [u8],
 ) -> Stepped
-    ensures { λ r. ⌜ r ≡ stepOf setup channel (now (tally .entry)) (length (now (slave .entry))) (length (now (master .entry))) ⌝ }
-    ensures { λ r. ⌜ now (tally .exit) ≡ stepOf setup channel (now (tally .entry)) (length (now (slave .entry))) (length (now (master .entry))) .tally ⌝ }
+    ensures { λ r. ⌜ r ≡ stepOf setup channel (now (tally .entry)) (now (slave .entry)) (now (master .entry)) ⌝ }
+    ensures { λ r. ⌜ now (tally .exit) ≡ stepOf setup channel (now (tally .entry)) (now (slave .entry)) (now (master .entry)) .tally ⌝ }
     ensures { λ r. ⌜ now (slave .exit) ≡ slaveAfter setup channel (now (slave .entry)) (now (master .entry)) ⌝ }
     ensures { λ r. ⌜ now (master .exit) ≡ masterAfter setup channel (now (slave .entry)) (now (master .entry)) ⌝ }
 {
@@ -58,7 +57,7 @@ pub fn run(
     ensures { λ r. ⌜ now (slave .exit) ≡ runOf setup budget (world channel (now (tally .entry)) (now (slave .entry)) (now (master .entry))) .slave ⌝ }
     ensures { λ r. ⌜ now (master .exit) ≡ runOf setup budget (world channel (now (tally .entry)) (now (slave .entry)) (now (master .entry))) .master ⌝ }
 {
-    let next = run::run(setup, channel, *tally, slave, master, budget);
+    let next = step::run(setup, channel, *tally, slave, master, budget);
     *tally = run_tally(next);
     next
 }

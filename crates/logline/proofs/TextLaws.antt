@@ -1,43 +1,26 @@
--- Laws of the text of a line: its digits by the tests that lead there, how long it can be, and writing it piece by piece.
-use Prim.Native.Nat.{ℕ, zero, suc, _+_, _-_, _/_, _%_, _≤_, _<_}
-use mathlib.Core.Path.{_≡_, sym, ap, _∙_}
+-- Laws of the text of a line: writing it piece by piece. Those of its digits are in DigitLaws.
+use Prim.Native.Nat.{ℕ, suc, _+_, _-_, _≤_, _<_}
+use mathlib.Core.Path.{_≡_, refl, sym, ap, _∙_}
+use mathlib.Core.Logic.{_≢_}
 use mathlib.Core.List.{List, [], _∷_, _++_, append-assoc}
-use native.Mathlib.Nat.{not-suc-le-zero, add-zero}
-use native.Mathlib.Numerals.{sub-one, add-one}
+use native.Mathlib.Nat.{add-zero}
+use native.Mathlib.Numerals.{add-one}
 use native.Mathlib.Omega.{arith}
-use borrow.Author.Tests.{lt-ltb, le-ltb}
-use lib.ListN.{length, set, getD, length-append}
-use lib.Seq.{sets}
-use lib.Dec.{ltb}
-use Rattle.basics.proofs.Tests.{by-test}
-use Rattle.logline.specs.Text.{digits, field, fieldsFrom}
-
-pub digits-zero : (left n : ℕ) → left ≡ 0 → digits left n ≡ (48 + n % 10) ∷ []
-digits-zero left n e = rw e
-
-pub digits-last : (left n : ℕ) → 0 < left → n < 10 → digits left n ≡ (48 + n) ∷ []
-digits-last zero n p h = absurd (not-suc-le-zero p)
-digits-last (suc left) n p h = simp (lt-ltb n 10 h)
-
-pub digits-more : (left n : ℕ) → 0 < left → 10 ≤ n → digits left n ≡ digits (left - 1) (n / 10) ++ ((48 + n % 10) ∷ [])
-digits-more zero n p h = absurd (not-suc-le-zero p)
-digits-more (suc left) n p h = rw sub-one (simp (le-ltb n 10 h))
-
-pub size-more : (left n : ℕ) → 0 < left → 10 ≤ n → length (digits left n) ≡ length (digits (left - 1) (n / 10)) + 1
-size-more left n p h = rw (digits-more left n p h) (length-append (digits (left - 1) (n / 10)) ((48 + n % 10) ∷ []))
-
--- at most one digit more than may follow the first
-pub digits-most : (left n : ℕ) → length (digits left n) ≤ suc left
-digits-most zero n = omega arith
-digits-most (suc left) n =
-    by-test (ltb n 10)
-    (λ t. rw t (omega arith))
-    (λ f. rw f (omega (arith, length-append (digits left (n / 10)) ((48 + n % 10) ∷ []), digits-most left (n / 10))))
+use lib.ListN.{length, set, getD}
+use lib.Seq.{sets, set-comm}
+use Rattle.logline.specs.Text.{field, fieldsFrom}
 
 -- a text of two parts is written one part after the other
 pub sets-append : (a b l : List ℕ) (i : ℕ) → sets l i (a ++ b) ≡ sets (sets l i a) (i + length a) b
 sets-append [] b l i = rw add-zero
 sets-append (x ∷ a) b l i = sets-append a b (set l i x) (suc i) ∙ ap (λ (k : ℕ). sets (sets (set l i x) (suc i) a) k b) (omega arith)
+
+-- a byte behind a text may be written before it
+pub sets-before : (a l : List ℕ) (i j x : ℕ) → i + length a ≤ j → sets (set l j x) i a ≡ set (sets l i a) j x
+sets-before [] l i j x h = refl
+sets-before (y ∷ a) l i j x h =
+    let apart : j ≢ i = λ e. absurd (omega (arith, e, h)) in
+    ap (λ (m : List ℕ). sets m (suc i) a) (set-comm l j i x y apart) ∙ sets-before a (set l i y) (suc i) j x (omega (arith, h))
 
 -- one field more of a line, from field i on
 pub fields-more : (numbers : List ℕ) (i n : ℕ) → i < n

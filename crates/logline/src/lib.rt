@@ -10,23 +10,55 @@ ghost use Rattle.logline.specs.Text.{digits, field, lineOf, past, writte
 ghost use Rattle.act.specs.Entry.{endingNumber};
 ghost use Rattle.logline.specs.Line.{cycleText, entryText, postText, stopText, endText, faultText};
 
-// The decimal digits of a number, of which as many as `left` may follow the first.
-fn put_digits(out: &mut [u8], at: usize, n: u32, left: u8) -> usize
-    requires { ⌜ at + length (digits left n) ≤ length (now out) ⌝ }
-    ensures { λ r. ⌜ r ≡ at + length (digits left n) ⌝ }
-    ensures { λ _. ⌜ now (out .exit) ≡ sets (now (out .entry)) at (digits left n) ⌝ }
+// How many decimal digits a number below 100,000 has; 5 of any other.
+fn few_digits(n: u32) -> usize
+    ensures { λ r. ⌜ r ≡ length (digits 4 n) ⌝ }
 {
-    if left == 0 {
-        out[at] = (48 + n % 10) as u8;
-        return at + 1;
+    if n < 10 {
+        return 1;
     }
+    if n < 100 {
+        return 2;
+    }
+    if n < 1000 {
+        return 3;
+    }
+    if n < 10000 {
+        return 4;
+    }
+    5
+}
+
+// How many decimal digits a number has.
+fn digit_count(n: u32) -> usize
+    ensures { λ r. ⌜ r ≡ length (digits 9 n) ⌝ }
+{
+    if n < 100000 {
+        return few_digits(n);
+    }
+    5 + few_digits(n / 100000)
+}
+
+// The decimal digits of a number. Most fields of a log have one digit, written at once; of more, counted before, the last is
+// written first, each in its place.
+fn put_digits(out: &mut [u8], at: usize, n: u32) -> usize
+    requires { ⌜ at + 10 ≤ length (now out) ⌝ }
+    ensures { λ r. ⌜ r ≡ at + length (digits 9 n) ⌝ }
+    ensures { λ _. ⌜ now (out .exit) ≡ sets (now (out .entry)) at (digits 9 n) ⌝ }
+{
     if n < 10 {
         out[at] = (48 + n) as u8;
         return at + 1;
     }
-    let next = put_digits(out, at, n / 10, left - 1);
-    out[next] = (48 + n % 10) as u8;
-    next + 1
+    let size = digit_count(n);
+    let mut rest = n;
+    let mut left = size;
+    while 0 < left {
+        left -= 1;
+        out[at + left] = (48 + rest % 10) as u8;
+        rest = rest / 10;
+    }
+    at + size
 }
 
 // A blank and a number.
@@ -36,7 +68,7 @@ fn put_field(out: &mut [u8], at: usize, n: u32) -> usize
     ensures { λ _. ⌜ now (out .exit) ≡ sets (now (out .entry)) at (field n) ⌝ }
 {
     out[at] = 32;
-    put_digits(out, at + 1, n, 9)
+    put_digits(out, at + 1, n)
 }
 
 // A letter, the first `count` of the numbers, and the end of the line, where there is room for the longest line.

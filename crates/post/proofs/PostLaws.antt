@@ -1,6 +1,6 @@
 -- An accepted post keeps a channel sound; a refused one gives back what it got.
 use Prim.Native.Nat.{ℕ, _+_, _≤_}
-use mathlib.Core.Path.{_≡_, sym, ap, _∙_}
+use mathlib.Core.Path.{_≡_, sym, ap, ap₂, _∙_}
 use mathlib.Core.Bool.{true, false, not, _&&_, false≢true}
 use mathlib.Core.Logic.{inl, inr, ⊎-elim}
 use native.Mathlib.Omega.{arith}
@@ -13,6 +13,9 @@ use Rattle.refusal.specs.declared.Verdict.the-variants.{Accepted, Refused}
 use Rattle.basics.proofs.Tests.{by-test, and-left, and-right}
 use Rattle.frame.specs.Frame.{isFramed}
 use Rattle.frame.specs.declared.Setup.{Setup}
+use Rattle.frame.specs.Allowance.{allowance, isWithin}
+use Rattle.frame.specs.Rows.{isPresent}
+use Rattle.frame.proofs.FrameLaws.{level-facts-of}
 use Rattle.channel.specs.declared.Phase.the-variants.{Granted}
 use Rattle.channel.specs.declared.Channel.{Channel}
 use Rattle.channel.specs.declared.Request.{Request}
@@ -20,11 +23,10 @@ use Rattle.channel.specs.Channel.{hasRequest, requestOf, withRequest, Shaped}
 use Rattle.channel.specs.Line.{line}
 use Rattle.channel.proofs.LineLaws.{line-by, line-some}
 use Rattle.channel.proofs.RequestLaws.{request-same, request-other}
-use Rattle.sound.specs.Rows.{isPresent}
 use Rattle.sound.specs.Request.{requestVerdict, transferOf}
-use Rattle.sound.specs.Sound.{allowance, isWithin, isInTime, isBlank, isSound}
+use Rattle.sound.specs.Sound.{isInTime, isBlank, isSound}
 use Rattle.sound.proofs.SoundFacts.{InTime, Settled, Sound, sound-is}
-use Rattle.sound.proofs.RequestFacts.{Fits, fits-is, level-facts-of, transfer-fits}
+use Rattle.sound.proofs.RequestFacts.{Fits, fits-is, transfer-fits}
 use Rattle.sound.proofs.RuleLaws.{rule-sound}
 use Rattle.post.specs.declared.Order.{Order}
 use Rattle.post.specs.Post.{requestIn, postVerdict, posted, postOf}
@@ -35,7 +37,7 @@ pub record Allowed (setup : Setup) (ch : Channel) (p : Order) : Type 0 where
   pub sound : isSound setup ch ≡ true
   pub present : isPresent (setup .levels) (p .level) ≡ true
   pub none : hasRequest (ch .left) (p .level) ≡ false
-  pub fits : requestVerdict setup (requestIn p) ≡ Accepted
+  pub fits : requestVerdict setup (p .level) (requestIn p) ≡ Accepted
 
 not-refused : {r : Refusal} → Refused r ≡ Accepted → ⊥
 not-refused e = let z : _≡_ {A = ℕ} 0 1 = cc in omega arith
@@ -63,8 +65,8 @@ module _ (setup : Setup) (ch : Channel) (p : Order) (shaped : Shaped ch) (ok : A
   small : p .level ≤ 15
   small = level-facts-of setup (ok .framed) (p .level) (ok .present) .1
 
-  fits : Fits setup (requestIn p)
-  fits = fits-is setup (requestIn p) (ok .fits)
+  fits : Fits setup (p .level) (requestIn p)
+  fits = fits-is setup (p .level) (requestIn p) (ok .fits)
 
   -- the request stands in its level's place, and the others are as they were
   here : (m : ℕ) → m ≡ p .level → requestOf (withRequest ch (p .level) (requestIn p)) m ≡ requestIn p
@@ -101,7 +103,7 @@ module _ (setup : Setup) (ch : Channel) (p : Order) (shaped : Shaped ch) (ok : A
       let l = eqb-true o (p .level) b in
       let z = not-false (eqb (getD (ch .left) o 0) 0) (ap (hasRequest (ch .left)) l ∙ ok .none) in
       let c : t ≡ ch .clock = eqb-true t (ch .clock) (rw z at (i .kept)) in
-      let f = transfer-fits setup (ok .framed) o (requestIn p) (ap (isPresent (setup .levels)) l ∙ ok .present) fits in
+      let f = transfer-fits setup (ok .framed) o (requestIn p) (ap (isPresent (setup .levels)) l ∙ ok .present) (rw l fits) in
       ap (λ (q : Request). isInTime setup o q (ch .clock) t) (here o l)
       ∙ rw (ne-eqb (p .length) 0 (omega (arith, fits .some)))
       (le-leb (transferOf setup o (requestIn p) + ch .clock) (t + allowance setup) (omega arith)))
@@ -122,11 +124,11 @@ module _ (setup : Setup) (ch : Channel) (p : Order) (shaped : Shaped ch) (ok : A
             by-test (eqb m (p .level))
             (λ b.
             let l = eqb-true m (p .level) b in
-            (ap (isPresent (setup .levels)) l ∙ ok .present, ap (requestVerdict setup) (here m l) ∙ ok .fits))
+            (ap (isPresent (setup .levels)) l ∙ ok .present, ap₂ (requestVerdict setup) l (here m l) ∙ ok .fits))
             (λ b.
             let n = eqb-false m (p .level) b in
             let r = s .request m k (sym (kept-open m n) ∙ h) in
-            (r .0, ap (requestVerdict setup) (other m n) ∙ r .1));
+            (r .0, ap (requestVerdict setup m) (other m n) ∙ r .1));
         blank = λ m k h.
             by-test (eqb m (p .level))
             (λ b. absurd (false≢true (sym h ∙ opened m (eqb-true m (p .level) b))))

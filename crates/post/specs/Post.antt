@@ -4,13 +4,13 @@ use mathlib.Core.List.{[], _∷_}
 use Rattle.refusal.specs.Refusal.{isAccepted, refusedBy}
 use Rattle.refusal.specs.declared.Verdict.{Verdict}
 use Rattle.frame.specs.Frame.{isFramed}
+use Rattle.frame.specs.Rows.{isPresent}
 use Rattle.frame.specs.declared.Setup.{Setup}
 use Rattle.channel.specs.declared.Channel.{Channel}
 use Rattle.channel.specs.declared.Request.{Request}
 use Rattle.channel.specs.declared.Judged.{Judged}
 use Rattle.channel.specs.Channel.{hasRequest, withRequest}
 use Rattle.channel.specs.Line.{lineRule}
-use Rattle.sound.specs.Rows.{isPresent}
 use Rattle.sound.specs.Request.{requestVerdict}
 use Rattle.sound.specs.Sound.{isSound}
 use Rattle.post.specs.declared.Order.{Order}
@@ -20,16 +20,16 @@ abbrev pub requestIn : Order → Request
 requestIn p =
     record { direction = p .direction; space = p .space; address = p .address; left = p .length; offset = p .offset }
 
--- "Order: 9 first, .. then the rest by number." "9: .. the set-up breaks the frame .. the channel is unsound"; "1: .. the level isn't in the set-up";
--- "2: .. that level has an open request"; 3, 4 and 5 are the request's own
-unfoldable pub postVerdict : Setup → Channel → Order → Verdict
-postVerdict setup ch p =
+-- "1: .. the level isn't in the set-up"; "2: .. that level has an open request"; 3, 4 and 5 are the request's own
+abbrev pub orderVerdict : Setup → Channel → Order → Verdict
+orderVerdict setup ch p =
     refusedBy
-    ((9, not (isFramed setup && isSound setup ch)) ∷
-    (1, not (isPresent (setup .levels) (p .level))) ∷
-    (2, hasRequest (ch .left) (p .level)) ∷
-    [])
-    (requestVerdict setup (requestIn p))
+    ((1, not (isPresent (setup .levels) (p .level))) ∷ (2, hasRequest (ch .left) (p .level)) ∷ [])
+    (requestVerdict setup (p .level) (requestIn p))
+
+-- "Order: 9 first, .. then the rest by number." "9: .. the set-up breaks the frame .. the channel is unsound"
+unfoldable pub postVerdict : Setup → Channel → Order → Verdict
+postVerdict setup ch p = refusedBy ((9, not (isFramed setup && isSound setup ch)) ∷ []) (orderVerdict setup ch p)
 
 -- an accepted post, then the line rule
 unfoldable pub posted : Channel → Order → Channel

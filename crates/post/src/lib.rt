@@ -4,10 +4,11 @@ use channel::Channel;
 use channel::Judged;
 use channel::Request;
 use frame::Setup;
+use frame::Store;
 use refusal::Refusal;
 use refusal::Verdict;
 ghost use mathlib.Core.Path.{_≡_};
-ghost use Rattle.post.specs.Post.{requestIn, postVerdict, posted, postOf};
+ghost use Rattle.post.specs.Post.{requestIn, orderVerdict, postVerdict, posted, postOf};
 
 // The six numbers of a post, as the sheet has them.
 pub struct Order {
@@ -31,22 +32,30 @@ fn request_in(order: Order) -> Request
     }
 }
 
-// Whether a post is accepted, or the first refusal in the paper's order.
-fn post_verdict(setup: Setup, channel: Channel, order: Order) -> Verdict
-    ensures { λ r. ⌜ r ≡ postVerdict setup channel order ⌝ }
+// Refusals 1 to 5, of a set-up that keeps the frame and a sound channel.
+fn order_verdict(setup: Setup, channel: Channel, order: Order) -> Verdict
+    ensures { λ r. ⌜ r ≡ orderVerdict setup channel order ⌝ }
 {
-    if !(frame::is_framed(setup) & sound::is_sound(setup, channel)) {
-        return Verdict::Refused(Refusal::Unsound);
-    }
     let levels = setup.levels;
-    if !sound::is_present(levels, order.level) {
+    if !frame::is_present(levels, order.level) {
         return Verdict::Refused(Refusal::LevelAbsent);
     }
     let open = channel::request_of(channel, order.level as usize);
     if open.left != 0 {
         return Verdict::Refused(Refusal::RequestOpen);
     }
-    sound::request_verdict(setup, request_in(order))
+    sound::request_verdict(setup, order.level, request_in(order))
+}
+
+// Whether a post is accepted, or the first refusal in the paper's order.
+fn post_verdict(setup: Setup, channel: Channel, order: Order) -> Verdict
+    ensures { λ r. ⌜ r ≡ postVerdict setup channel order ⌝ }
+{
+    let store = sound::sound_store(setup, channel);
+    match store {
+        Store::Broken => Verdict::Refused(Refusal::Unsound),
+        Store::Length(_) => order_verdict(setup, channel, order),
+    }
 }
 
 // The channel with an accepted request.

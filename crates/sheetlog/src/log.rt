@@ -214,13 +214,17 @@ fn wide(x: u8) -> u64
 
 // A space and a number, in a line; answers where they end.
 fn put_number(line: &mut [u8; 128], at: usize, n: u64) -> usize
-    requires { ⌜ at < 128 ⌝ }
+    requires { ⌜ at + 21 ≤ 128 ⌝ }
     ensures { λ r. ⌜ r ≤ at + 21 ⌝ }
 {
     let mut digits = [0u8; 20];
     let size = io::decimal(n, &mut digits);
     line[at] = b' ';
-    basics::move_bytes(&digits[..size], 0, line, at + 1, size);
+    let mut i: usize = 0;
+    while i < size {
+        line[at + 1 + i] = digits[i];
+        i += 1;
+    }
     at + 1 + size
 }
 

@@ -1,5 +1,5 @@
-pub mod Sums
 pub mod SoundFacts
 pub mod RequestFacts
 pub mod RuleLaws
 pub mod TableLaws
+pub mod StoreLaws

@@ -1,7 +1,7 @@
 -- What an accepted request has, as facts, and back; and that its transfers fit the allowance.
-use Prim.Native.Nat.{ℕ, _+_, _*_, _≤_}
-use mathlib.Core.Path.{_≡_, refl}
-use mathlib.Core.Bool.{true, and-false, false≢true}
+use Prim.Native.Nat.{ℕ, _+_, _≤_}
+use mathlib.Core.Path.{_≡_}
+use mathlib.Core.Bool.{true, and-false}
 use native.Mathlib.Omega.{arith}
 use borrow.Author.Tests.{leb-true, le-leb, ltb-false, le-ltb}
 use lib.Dec.{leb}
@@ -10,37 +10,20 @@ use Rattle.refusal.specs.declared.Verdict.the-variants.{Accepted, Refused}
 use Rattle.basics.proofs.Tests.{by-test, need}
 use Rattle.cycle.specs.Cycle.{isLength}
 use Rattle.cycle.proofs.TransferLaws.{time-most}
-use Rattle.frame.specs.declared.SlaveRow.{SlaveRow}
-use Rattle.frame.specs.declared.LevelRows.{LevelRows}
 use Rattle.frame.specs.declared.Setup.{Setup}
-use Rattle.frame.specs.declared.FoundLevel.{FoundLevel}
-use Rattle.frame.specs.declared.FoundLevel.the-variants.{Missing, Row}
-use Rattle.frame.specs.declared.FoundSlave.{FoundSlave}
-use Rattle.frame.specs.declared.FoundSlave.the-variants.{Missing as NoSlave, Row as Slave}
+use Rattle.frame.specs.declared.FoundSlave.the-variants.{Row as Slave}
 use Rattle.frame.specs.Frame.{isFramed}
-use Rattle.frame.specs.Find.{levelRow}
-use Rattle.frame.proofs.FrameLaws.{LevelFacts, SlaveFacts, found-level, found-small, framed-levels, framed-slaves}
+use Rattle.frame.specs.Rows.{isPresent, levelOf}
+use Rattle.frame.specs.Allowance.{allowance}
+use Rattle.frame.proofs.FoundLaws.{slave-row-of}
+use Rattle.frame.proofs.FrameLaws.{framed-slaves, level-facts-of, quarter}
 use Rattle.frame.proofs.SlaveLaws.{Found, found-slave}
 use Rattle.channel.specs.declared.Request.{Request}
-use Rattle.sound.specs.Rows.{isLevel, levelOr, isSlave, slaveOr, startOr, isPresent, levelOf, slaveFor, slaveOf, startOf}
+use Rattle.channel.specs.Slave.{slaveFor, slaveOf, startOf}
 use Rattle.sound.specs.Request.{isInRange, isInsideSlave, isOutsideMaster, requestVerdict, transferOf}
-use Rattle.sound.specs.Sound.{allowance}
 
--- a level that is present has its row
-level-row-of : (found : FoundLevel) → isLevel found ≡ true → found ≡ Row (levelOr found)
-level-row-of Missing e = absurd (false≢true e)
-level-row-of (Row row) e = refl
-
-slave-row-of : (found : FoundSlave) → isSlave found ≡ true → found ≡ Slave (slaveOr found) (startOr found)
-slave-row-of NoSlave e = absurd (false≢true e)
-slave-row-of (Slave row start) e = refl
-
-pub row-of : (levels : LevelRows) (l : ℕ) → isPresent levels l ≡ true → levelRow levels l ≡ Row (levelOf levels l)
-unfolding isPresent levelOf
-row-of levels l e = level-row-of (levelRow levels l) e
-
--- a request that meets none of 3, 4 and 5
-pub record Fits (setup : Setup) (q : Request) : Type 0 where
+-- a level's request that meets none of 3, 4 and 5
+pub record Fits (setup : Setup) (l : ℕ) (q : Request) : Type 0 where
   pub some : 1 ≤ q .left
   pub most : q .left ≤ 4096
   pub direction : q .direction ≤ 1
@@ -48,11 +31,11 @@ pub record Fits (setup : Setup) (q : Request) : Type 0 where
   pub found : slaveFor (setup .slaves) q ≡ Slave (slaveOf (setup .slaves) q) (startOf (setup .slaves) q)
   pub master : q .offset + q .left ≤ setup .master
 
-module _ (setup : Setup) (q : Request) where
+module _ (setup : Setup) (l : ℕ) (q : Request) where
   not-refused : {r : Refusal} → Refused r ≡ Accepted → ⊥
   not-refused e = let z : _≡_ {A = ℕ} 0 1 = cc in omega arith
 
-  pub fits-is : requestVerdict setup q ≡ Accepted → Fits setup q
+  pub fits-is : requestVerdict setup l q ≡ Accepted → Fits setup l q
   unfolding requestVerdict isInRange isLength slaveOf startOf
   fits-is e =
       let range = by-test (isInRange q) (λ t. t) (λ f. absurd (not-refused (rw f at e))) in
@@ -69,7 +52,7 @@ module _ (setup : Setup) (q : Request) where
         master = ltb-false (setup .master) (q .offset + q .left) master;
       }
 
-  pub fits-by : Fits setup q → requestVerdict setup q ≡ Accepted
+  pub fits-by : Fits setup l q → requestVerdict setup l q ≡ Accepted
   unfolding requestVerdict isInRange isLength
   fits-by f =
       rw (
@@ -83,25 +66,14 @@ module _ (setup : Setup) (q : Request) where
 
 -- in a framed set-up
 module _ (setup : Setup) (framed : isFramed setup ≡ true) where
-  pub level-facts-of : (l : ℕ) → isPresent (setup .levels) l ≡ true → LevelFacts (levelOf (setup .levels) l) × (l ≤ 15)
-  level-facts-of l e =
-      let r = row-of (setup .levels) l e in
-      let fit = framed-levels setup framed in
-      (found-level (setup .levels) fit l _ r .0, found-small (setup .levels) fit l _ r)
-
-  pub slave-facts-of : (q : Request) → Fits setup q
+  pub slave-facts-of : {l : ℕ} (q : Request) → Fits setup l q
       → Found (setup .slaves) (framed-slaves setup framed) (q .space) (q .address) (q .left) (slaveOf (setup .slaves) q) (startOf (setup .slaves) q)
   slave-facts-of q f = found-slave (setup .slaves) (framed-slaves setup framed) (q .space) (q .address) (q .left) _ _ (f .found)
 
-  -- four cycles of the slowest slave fit the allowance
-  pub quarter : (row : SlaveRow) → SlaveFacts row → 4 * row .time ≤ allowance setup
-  unfolding allowance
-  quarter row f = omega (arith, f .slowest)
-
   -- a transfer of an accepted request fits the allowance
-  pub transfer-fits : (l : ℕ) (q : Request) → isPresent (setup .levels) l ≡ true → Fits setup q → transferOf setup l q ≤ allowance setup
+  pub transfer-fits : (l : ℕ) (q : Request) → isPresent (setup .levels) l ≡ true → Fits setup l q → transferOf setup l q ≤ allowance setup
   unfolding transferOf
   transfer-fits l q p f =
       let s = slave-facts-of q f .facts in
-      time-most (levelOf (setup .levels) l .width) (slaveOf (setup .slaves) q .port) (level-facts-of l p .0 .width) (s .port) (q .address) (q .left)
-      (slaveOf (setup .slaves) q .time) (allowance setup) (quarter (slaveOf (setup .slaves) q) s)
+      time-most (levelOf (setup .levels) l .width) (slaveOf (setup .slaves) q .port) (level-facts-of setup framed l p .0 .width) (s .port) (q .address) (q .left)
+      (slaveOf (setup .slaves) q .time) (allowance setup) (quarter setup (slaveOf (setup .slaves) q) s)

@@ -10,16 +10,17 @@ use lib.Dec.{eqb}
 use Rattle.basics.proofs.Tests.{by-test}
 use Rattle.frame.specs.declared.Setup.{Setup}
 use Rattle.frame.specs.Frame.{isFramed}
+use Rattle.frame.specs.Allowance.{allowance, isWithin}
 use Rattle.channel.specs.declared.Phase.{Phase}
 use Rattle.channel.specs.declared.Phase.the-variants.{Arbitrating, Granted}
 use Rattle.channel.specs.declared.Asked.{Asked}
 use Rattle.channel.specs.declared.Asked.the-variants.{Never, At}
 use Rattle.channel.specs.declared.Channel.{Channel}
-use Rattle.channel.specs.Channel.{requestOf, Shaped}
+use Rattle.channel.specs.Channel.{requestOf, changed, Shaped}
 use Rattle.channel.specs.Line.{isInactive, line, cleared, askedNow, timed, lineRule}
 use Rattle.channel.proofs.LineLaws.{cleared-on, no-marks}
 use Rattle.sound.specs.Request.{transferOf}
-use Rattle.sound.specs.Sound.{allowance, isWithin, isInTime}
+use Rattle.sound.specs.Sound.{isInTime}
 use Rattle.sound.proofs.SoundFacts.{Settled, Sound}
 use Rattle.sound.proofs.RequestFacts.{fits-is, transfer-fits}
 
@@ -84,7 +85,7 @@ module _ (setup : Setup) (framed : isFramed setup ≡ true) (ch : Channel) where
       (λ z. rw z (eq-eqb t (ch .clock) k))
       (λ n.
       let r = s .request o (omega (arith, g .small)) (rw n) in
-      let b = transfer-fits setup framed o (requestOf ch o) (r .0) (fits-is setup (requestOf ch o) (r .1)) in
+      let b = transfer-fits setup framed o (requestOf ch o) (r .0) (fits-is setup o (requestOf ch o) (r .1)) in
       rw n (le-leb (transferOf setup o (requestOf ch o) + ch .clock) (t + allowance setup) (omega arith)))
 
   timed-sound : Settled setup ch → ((l : ℕ) → l < 16 → isInactive (ch .inactive) l ≡ true → line ch ≡ true) → Sound setup (timed ch)
@@ -124,20 +125,7 @@ same-asked setup ch s (Granted o) Never e f = rw (s .quiet o e f)
 -- nothing is removed where no mark is left
 unmarked : (ch : Channel) → line ch ≡ false → ch .inactive ≡ replicate 16 false → cleared ch ≡ ch
 unfolding cleared
-unmarked ch f e =
-    rw f
-    (λ i.
-    record {
-      phase = ch .phase;
-      asked = ch .asked;
-      clock = ch .clock;
-      inactive = sym e i;
-      direction = ch .direction;
-      space = ch .space;
-      address = ch .address;
-      left = ch .left;
-      offset = ch .offset;
-    })
+unmarked ch f e = rw f (ap (changed ch (ch .phase) (ch .asked) (ch .clock)) (sym e))
 
 same-cleared : (setup : Setup) (ch : Channel) → Shaped ch → Sound setup ch → cleared ch ≡ ch
 same-cleared setup ch k s =
@@ -150,18 +138,8 @@ same-cleared setup ch k s =
 
 same-timed : (setup : Setup) (ch : Channel) → Sound setup ch → timed ch ≡ ch
 unfolding timed
-same-timed setup ch s = λ i.
-    record {
-      phase = ch .phase;
-      asked = same-asked setup ch s (ch .phase) (ch .asked) refl refl i;
-      clock = ch .clock;
-      inactive = ch .inactive;
-      direction = ch .direction;
-      space = ch .space;
-      address = ch .address;
-      left = ch .left;
-      offset = ch .offset;
-    }
+same-timed setup ch s =
+    ap (λ (a : Asked). changed ch (ch .phase) a (ch .clock) (ch .inactive)) (same-asked setup ch s (ch .phase) (ch .asked) refl refl)
 
 -- the line rule changes nothing on a sound channel
 pub rule-same : (setup : Setup) (ch : Channel) → Shaped ch → Sound setup ch → lineRule ch ≡ ch

@@ -15,6 +15,7 @@ use Rattle.basics.proofs.ScanLaws.{all-at, all-intro}
 use Rattle.basics.proofs.Tests.{by-test, need, and-left, and-right, or-cases, or-left, or-right}
 use Rattle.frame.specs.declared.LevelRows.{LevelRows}
 use Rattle.frame.specs.declared.Setup.{Setup}
+use Rattle.frame.specs.Rows.{isFair, isPresent, levelOf}
 use Rattle.channel.specs.declared.Phase.{Phase}
 use Rattle.channel.specs.declared.Phase.the-variants.{Arbitrating, Granted}
 use Rattle.channel.specs.declared.Asked.{Asked}
@@ -22,7 +23,6 @@ use Rattle.channel.specs.declared.Asked.the-variants.{Never, At}
 use Rattle.channel.specs.declared.Channel.{Channel}
 use Rattle.channel.specs.Channel.{hasRequest, requestOf}
 use Rattle.channel.specs.Line.{isInactive, line}
-use Rattle.sound.specs.Rows.{isPresent, levelOf, isFair}
 use Rattle.sound.specs.Request.{requestVerdict}
 use Rattle.sound.specs.Sound.{
   clockLimit,
@@ -57,7 +57,7 @@ pub record InTime (setup : Setup) (ch : Channel) (owner t : ℕ) : Type 0 where
 pub record Settled (setup : Setup) (ch : Channel) : Type 0 where
   pub owner : (o : ℕ) → ch .phase ≡ Granted o → Grant (setup .levels) ch o
   pub request : (l : ℕ) → l < 16 → hasRequest (ch .left) l ≡ true
-      → (isPresent (setup .levels) l ≡ true) × (requestVerdict setup (requestOf ch l) ≡ Accepted)
+      → (isPresent (setup .levels) l ≡ true) × (requestVerdict setup l (requestOf ch l) ≡ Accepted)
   pub blank : (l : ℕ) → l < 16 → hasRequest (ch .left) l ≡ false → isBlank (requestOf ch l) ≡ true
   pub fair : (l : ℕ) → l < 16 → isInactive (ch .inactive) l ≡ true
       → (isPresent (setup .levels) l ≡ true) × (isFair (levelOf (setup .levels) l .options) ≡ true)
@@ -106,7 +106,7 @@ module _ (setup : Setup) (ch : Channel) where
 
   -- the requests
   request-is : (l : ℕ) → isRequestSound setup ch l ≡ true → hasRequest (ch .left) l ≡ true
-      → (isPresent (setup .levels) l ≡ true) × (requestVerdict setup (requestOf ch l) ≡ Accepted)
+      → (isPresent (setup .levels) l ≡ true) × (requestVerdict setup l (requestOf ch l) ≡ Accepted)
   unfolding isRequestSound
   request-is l h e =
       let r = rw (not-true (eqb (getD (ch .left) l 0) 0) e) at h in

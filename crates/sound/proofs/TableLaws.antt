@@ -1,15 +1,15 @@
 -- The arrays by level number, and that the tests over them are those of `Sound`.
-use Prim.Native.Nat.{ℕ, _+_, _-_, _<_, _≤_}
+use Prim.Native.Nat.{ℕ, zero, suc, _+_, _-_, _<_, _≤_}
 use mathlib.Core.Path.{_≡_, refl, sym, ap, _∙_, subst, subst⁻¹}
 use mathlib.Core.Bool.{Bool, true, false, not, _&&_, and-true, and-false}
 use mathlib.Core.List.{List}
 use native.Mathlib.Nat.{sub-zero}
 use native.Mathlib.Omega.{arith}
-use borrow.Author.Tests.{lt-ltb, eqb-true, eqb-false, leb-true}
+use borrow.Author.Tests.{lt-ltb, eqb-true, eqb-false, leb-true, not-true, not-false}
 use lib.Dec.{eqb, leb, ltb}
 use lib.ListN.{length, getD, set}
 use lib.Seq.{getD-set-same, getD-set-other}
-use Rattle.basics.specs.Scan.{firstFrom}
+use Rattle.basics.specs.Scan.{allBelow, firstFrom}
 use Rattle.basics.proofs.ScanLaws.{all-ext, all-both, first-hit, first-miss, first-none}
 use Rattle.basics.proofs.Tests.{by-test, and-left}
 use Rattle.refusal.specs.Refusal.{isAccepted}
@@ -20,8 +20,10 @@ use Rattle.frame.specs.declared.SlaveRows.{SlaveRows}
 use Rattle.frame.specs.declared.FoundSlave.the-variants.{Missing as NoSlave, Row as Slave}
 use Rattle.frame.specs.declared.FoundLevel.{FoundLevel}
 use Rattle.frame.specs.declared.FoundLevel.the-variants.{Missing, Row}
-use Rattle.frame.specs.Frame.{levelAt, slaveAt, present}
+use Rattle.frame.specs.Frame.{levelAt, slaveAt, present, levelRowFits}
 use Rattle.frame.specs.Find.{levelFound, levelRow, levelIndex, holds, slaveIndex}
+use Rattle.frame.specs.Rows.{isFair, isLevel, levelOr, isPresent, levelOf, isSlave}
+use Rattle.frame.proofs.FrameLaws.{level-facts}
 use Rattle.frame.proofs.RowLaws.{slave-hit, slave-none}
 use Rattle.channel.specs.declared.Phase.{Phase}
 use Rattle.channel.specs.declared.Phase.the-variants.{Arbitrating, Granted}
@@ -31,8 +33,8 @@ use Rattle.channel.specs.declared.Channel.{Channel}
 use Rattle.channel.specs.declared.Request.{Request}
 use Rattle.channel.specs.Channel.{placeIn, requestOf}
 use Rattle.channel.specs.Line.{line}
+use Rattle.channel.specs.Slave.{slaveFor}
 use Rattle.sound.specs.declared.Members.{Members}
-use Rattle.sound.specs.Rows.{isLevel, levelOr, isFair, isPresent, levelOf, isSlave, slaveFor}
 use Rattle.sound.specs.Request.{isInRange, requestVerdict}
 use Rattle.sound.specs.Sound.{
   isGrantSound,
@@ -54,12 +56,12 @@ use Rattle.sound.specs.Tables.{
   AreMembers,
   grantFits,
   ownerFits,
-  isBlankAt,
+  isBlankOr,
   areBlank,
   openSound,
-  isOpenSound,
   restFits,
   areOpenSound,
+  requestsFit,
   areMarked,
   askedFits,
 }
@@ -108,11 +110,22 @@ module _ (levels : LevelRows) (asked : FoundLevel → Bool) (table : List Bool) 
   unfolding foundFrom levelRow levelIndex
   tells-all e l k = rw (← sub-zero (present (levels .count))) (e l k)
 
+-- a row that keeps the frame has a level with a place in the arrays
+pub fits-small : (levels : LevelRows) (i : ℕ) → levelRowFits levels i ≡ true → levelAt levels i .level < 16
+unfolding levelRowFits
+fits-small levels i e = let f = level-facts (levelAt levels i) (and-left _ _ e) .level in omega arith
+
+-- what is left to test, where the last holds
+pub all-less : (f : ℕ → Bool) (i : ℕ) → 0 < i → f (i - 1) ≡ true → allBelow f i ≡ allBelow f (i - 1)
+unfolding allBelow
+all-less f zero h e = absurd (omega arith)
+all-less f (suc i) h e = let k : suc i - 1 ≡ i = omega arith in let g : f i ≡ true = rw k at e in rw (k, g) (and-true (allBelow f i))
+
 -- an open request: its row, then the rest
-accepted-if : (setup : Setup) (q : Request)
-    → isAccepted (requestVerdict setup q) ≡ (isSlave (slaveFor (setup .slaves) q) && (isInRange q && not (ltb (setup .master) (q .offset + q .left))))
+accepted-if : (setup : Setup) (l : ℕ) (q : Request)
+    → isAccepted (requestVerdict setup l q) ≡ (isSlave (slaveFor (setup .slaves) q) && (isInRange q && not (ltb (setup .master) (q .offset + q .left))))
 unfolding requestVerdict
-accepted-if setup q =
+accepted-if setup l q =
     by-test (isInRange q)
     (λ t.
     by-test (isSlave (slaveFor (setup .slaves) q))
@@ -120,13 +133,13 @@ accepted-if setup q =
     (λ u. rw (t, u)))
     (λ t. rw (t, and-false))
 
-module _ (setup : Setup) (present : Bool) (q : Request) (some : eqb (q .left) 0 ≡ false) where
+module _ (setup : Setup) (present : Bool) (l : ℕ) (q : Request) (some : eqb (q .left) 0 ≡ false) where
   pub open-held : (row : SlaveRow) (start : ℕ) → Slave row start ≡ slaveFor (setup .slaves) q
-      → openSound setup present q ≡ restFits present (setup .master) q
-  open-held row start e = rw (some, accepted-if setup q, ← e)
+      → openSound setup present l q ≡ restFits present (setup .master) q
+  open-held row start e = rw (some, accepted-if setup l q, ← e)
 
-  pub open-unheld : NoSlave ≡ slaveFor (setup .slaves) q → openSound setup present q ≡ false
-  open-unheld e = rw (some, accepted-if setup q, ← e, and-false)
+  pub open-unheld : NoSlave ≡ slaveFor (setup .slaves) q → openSound setup present l q ≡ false
+  open-unheld e = rw (some, accepted-if setup l q, ← e, and-false)
 
 -- the search for the slave row of a request has come to row i of n
 abbrev pub SearchedTo : SlaveRows → Request → ℕ → ℕ → Type 0
@@ -141,31 +154,40 @@ searched-none slaves s a w n e = rw (sub-zero n, e)
 
 -- a turn of the loop over the levels and, for an open request, the slave rows
 module _ (setup : Setup) (table : List Bool) (rest : ℕ → Request) (l : ℕ) (q : Request) (told : q ≡ rest l) where
-  of-level : openSound setup (getD table l false) q ≡ openSound setup (getD table l false) (rest l)
-  of-level = ap (openSound setup (getD table l false)) told
+  of-level : openSound setup (getD table l false) l q ≡ openSound setup (getD table l false) l (rest l)
+  of-level = ap (openSound setup (getD table l false) l) told
 
-  pub turn-closed : eqb (q .left) 0 ≡ true → openSound setup (getD table l false) (rest l) ≡ true
+  pub turn-closed : eqb (q .left) 0 ≡ true → openSound setup (getD table l false) l (rest l) ≡ true
   turn-closed e = sym of-level ∙ rw e
 
   module _ (i n : ℕ) (searched : SearchedTo (setup .slaves) (rest l) i n) where
     searched-by : SearchedTo (setup .slaves) q i n
     searched-by = subst⁻¹ (λ (x : Request). SearchedTo (setup .slaves) x i n) told searched
 
-    pub turn-none : eqb (q .left) 0 ≡ false → n ≤ i → openSound setup (getD table l false) (rest l) ≡ false
+    pub turn-none : eqb (q .left) 0 ≡ false → n ≤ i → openSound setup (getD table l false) l (rest l) ≡ false
     turn-none e h =
-        sym of-level ∙ open-unheld setup (getD table l false) q e (slave-none (setup .slaves) (q .space) (q .address) (q .left) i n searched-by h)
+        sym of-level ∙ open-unheld setup (getD table l false) l q e (slave-none (setup .slaves) (q .space) (q .address) (q .left) i n searched-by h)
 
     pub turn-held : eqb (q .left) 0 ≡ false → i < n → n ≤ 16 → holds (slaveAt (setup .slaves) i) (q .space) (q .address) (q .left) ≡ true
-        → openSound setup (getD table l false) (rest l) ≡ restFits (getD table l false) (setup .master) q
+        → openSound setup (getD table l false) l (rest l) ≡ restFits (getD table l false) (setup .master) q
     turn-held e h k t =
         sym of-level
-        ∙ open-held setup (getD table l false) q e _ _ (slave-hit (setup .slaves) (q .space) (q .address) (q .left) i n searched-by h k t)
+        ∙ open-held setup (getD table l false) l q e _ _ (slave-hit (setup .slaves) (q .space) (q .address) (q .left) i n searched-by h k t)
 
     pub turn-on : i < n → holds (slaveAt (setup .slaves) i) (q .space) (q .address) (q .left) ≡ false
         → SearchedTo (setup .slaves) (rest l) (i + 1) n
     turn-on h f =
         sym (first-miss _ i n 16 h (subst (λ (x : Request). holds (slaveAt (setup .slaves) i) (x .space) (x .address) (x .left) ≡ false) told f))
         ∙ searched
+
+-- a sound owner has a place
+place-by : (present : List Bool) (left : List ℕ) (inactive : List Bool) (p : Phase) → ownerFits present left inactive p ≡ true → placeIn p < 16
+place-by present left inactive Arbitrating e = omega arith
+place-by present left inactive (Granted o) e = let h = leb-true o 15 (and-left _ _ e) in omega arith
+
+pub owner-place : (present : List Bool) (left : List ℕ) (inactive : List Bool) (phase : Phase) (owner : Bool) (place : ℕ)
+    → owner ≡ ownerFits present left inactive phase → not owner ≡ false → place ≡ placeIn phase → place < 16
+owner-place present left inactive phase owner place o e p = rw p (place-by present left inactive phase (sym o ∙ not-false owner e))
 
 module _ (setup : Setup) (ch : Channel) (members : Members) (tells : AreMembers (setup .levels) members) where
   -- the owner
@@ -176,24 +198,24 @@ module _ (setup : Setup) (ch : Channel) (members : Members) (tells : AreMembers 
       (λ t. let h = leb-true o 15 t in rw (t, tells .present o (omega arith)))
       (λ f. rw f)
 
-  owner-fits : (p : Phase) → ownerFits (members .present) (ch .left) (ch .inactive) p ≡ ownerSound (setup .levels) ch p
-  owner-fits Arbitrating = refl
-  owner-fits (Granted o) = grant-fits o
+  owner-by : (p : Phase) → ownerFits (members .present) (ch .left) (ch .inactive) p ≡ ownerSound (setup .levels) ch p
+  owner-by Arbitrating = refl
+  owner-by (Granted o) = grant-fits o
+
+  pub owner-fits : ownerFits (members .present) (ch .left) (ch .inactive) (ch .phase) ≡ isOwnerSound (setup .levels) ch
+  unfolding isOwnerSound
+  owner-fits = owner-by (ch .phase)
 
   -- the requests
   request-fits : (l : ℕ) → l < 16
-      → (isBlankAt (ch .direction) (ch .space) (ch .address) (ch .left) (ch .offset) l
-      && isOpenSound setup (members .present) (ch .direction) (ch .space) (ch .address) (ch .left) (ch .offset) l)
-      ≡ isRequestSound setup ch l
+      → (isBlankOr (requestOf ch l) && openSound setup (getD (members .present) l false) l (requestOf ch l)) ≡ isRequestSound setup ch l
   unfolding isRequestSound isPresent
   request-fits l k =
       by-test (eqb (getD (ch .left) l 0) 0)
       (λ t. rw (t, and-true))
       (λ f. rw (f, tells .present l k))
 
-  requests-fit : (areBlank (ch .direction) (ch .space) (ch .address) (ch .left) (ch .offset)
-      && areOpenSound setup (members .present) (ch .direction) (ch .space) (ch .address) (ch .left) (ch .offset))
-      ≡ areRequestsSound setup ch
+  pub requests-fit : requestsFit setup (members .present) (requestOf ch) ≡ areRequestsSound setup ch
   unfolding areBlank areOpenSound areRequestsSound
   requests-fit = all-both _ _ 16 ∙ all-ext _ _ 16 request-fits
 
@@ -202,17 +224,10 @@ module _ (setup : Setup) (ch : Channel) (members : Members) (tells : AreMembers 
   fair-row active Missing = refl
   fair-row active (Row row) = refl
 
-  marks-fit : (active : Bool) → areMarked (members .fair) (ch .inactive) active ≡ areMarksSound (setup .levels) (ch .inactive) active
+  pub marks-fit : (active : Bool) → areMarked (members .fair) (ch .inactive) active ≡ areMarksSound (setup .levels) (ch .inactive) active
   unfolding areMarked areMarksSound isMarkSound isPresent levelOf
   marks-fit active =
       all-ext _ _ 16 (λ l k. rw (tells .fair l k, fair-row active (levelRow (setup .levels) l)))
-
-  pub place-small : ownerFits (members .present) (ch .left) (ch .inactive) (ch .phase) ≡ true → placeIn (ch .phase) < 16
-  place-small = place-by (ch .phase)
-    where
-      place-by : (p : Phase) → ownerFits (members .present) (ch .left) (ch .inactive) p ≡ true → placeIn p < 16
-      place-by Arbitrating e = omega arith
-      place-by (Granted o) e = let h = leb-true o 15 (and-left _ _ e) in omega arith
 
   -- the asked time
   asked-by : (active : Bool) (p : Phase) (a : Asked) → askedFits setup (requestOf ch (placeIn p)) (ch .clock) active p a ≡ askedSound setup ch active p a
@@ -227,40 +242,26 @@ module _ (setup : Setup) (ch : Channel) (members : Members) (tells : AreMembers 
   unfolding isAskedSound
   asked-fits active = asked-by active (ch .phase) (ch .asked)
 
-  -- owner, blank places, marks and times, open requests, as they are tested one after the other
-  tested-sound : ((ownerFits (members .present) (ch .left) (ch .inactive) (ch .phase)
-      && areBlank (ch .direction) (ch .space) (ch .address) (ch .left) (ch .offset))
-      && ((areMarked (members .fair) (ch .inactive) (line ch) && (isClockSound ch && isAskedSound setup ch (line ch)))
-      && areOpenSound setup (members .present) (ch .direction) (ch .space) (ch .address) (ch .left) (ch .offset)))
-      ≡ isSound setup ch
-  unfolding isSound isOwnerSound
-  tested-sound =
-      rw (← owner-fits (ch .phase), ← requests-fit, ← marks-fit (line ch))
-      (regroup
-      (ownerFits (members .present) (ch .left) (ch .inactive) (ch .phase))
-      (areBlank (ch .direction) (ch .space) (ch .address) (ch .left) (ch .offset))
-      (areMarked (members .fair) (ch .inactive) (line ch))
-      (isClockSound ch && isAskedSound setup ch (line ch))
-      (areOpenSound setup (members .present) (ch .direction) (ch .space) (ch .address) (ch .left) (ch .offset)))
-    where
-      regroup : (o b m t r : Bool) → ((o && b) && ((m && t) && r)) ≡ ((o && (b && r)) && (m && t))
-      regroup true true m t true = and-true (m && t)
-      regroup true true m t false = and-false (m && t)
-      regroup true false m t r = refl
-      regroup false b m t r = refl
-
-  pub owner-unsound : ownerFits (members .present) (ch .left) (ch .inactive) (ch .phase) ≡ false → false ≡ isSound setup ch
-  owner-unsound e = (rw e) ∙ tested-sound
-
-  pub blank-unsound : areBlank (ch .direction) (ch .space) (ch .address) (ch .left) (ch .offset) ≡ false → false ≡ isSound setup ch
-  blank-unsound e = (rw (e, and-false)) ∙ tested-sound
-
-  pub time-unsound : (areMarked (members .fair) (ch .inactive) (line ch) && (isClockSound ch && isAskedSound setup ch (line ch))) ≡ false
+  -- what the clauses' tests gave, put together
+  pub owner-unsound : (owner : Bool) → owner ≡ ownerFits (members .present) (ch .left) (ch .inactive) (ch .phase) → not owner ≡ true
       → false ≡ isSound setup ch
-  time-unsound e = (rw (e, and-false)) ∙ tested-sound
+  unfolding isSound
+  owner-unsound owner o e = rw (sym owner-fits ∙ sym o ∙ not-true owner e)
 
-  pub open-decides : ownerFits (members .present) (ch .left) (ch .inactive) (ch .phase) ≡ true
-      → areBlank (ch .direction) (ch .space) (ch .address) (ch .left) (ch .offset) ≡ true
-      → (areMarked (members .fair) (ch .inactive) (line ch) && (isClockSound ch && isAskedSound setup ch (line ch))) ≡ true
-      → areOpenSound setup (members .present) (ch .direction) (ch .space) (ch .address) (ch .left) (ch .offset) ≡ isSound setup ch
-  open-decides o b t = (rw (o, b, t)) ∙ tested-sound
+  pub clauses-sound : (owner requests active marks clock time : Bool) (place : ℕ) (rest : Request)
+      → owner ≡ ownerFits (members .present) (ch .left) (ch .inactive) (ch .phase) → not owner ≡ false
+      → requests ≡ requestsFit setup (members .present) (requestOf ch)
+      → active ≡ line ch → marks ≡ areMarked (members .fair) (ch .inactive) active
+      → clock ≡ isClockSound ch
+      → place ≡ placeIn (ch .phase) → rest ≡ requestOf ch place → time ≡ askedFits setup rest (ch .clock) active (ch .phase) (ch .asked)
+      → (requests && (marks && (clock && time))) ≡ isSound setup ch
+  unfolding isSound
+  clauses-sound owner requests active marks clock time place rest o e r l m k p q t =
+      rw (
+        sym owner-fits ∙ sym o ∙ not-false owner e,
+        r ∙ requests-fit,
+        m ∙ marks-fit active,
+        k,
+        t ∙ ap (λ (x : Request). askedFits setup x (ch .clock) active (ch .phase) (ch .asked)) (q ∙ ap (requestOf ch) p) ∙ asked-fits active,
+        l,
+      )

@@ -1,4 +1,3 @@
-pub mod Rows
 pub mod Request
 pub mod Sound
 pub mod Tables

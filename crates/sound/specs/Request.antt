@@ -8,8 +8,9 @@ use Rattle.refusal.specs.declared.Verdict.{Verdict}
 use Rattle.refusal.specs.declared.Verdict.the-variants.{Accepted}
 use Rattle.cycle.specs.Cycle.{isLength, transferTime}
 use Rattle.frame.specs.declared.Setup.{Setup}
+use Rattle.frame.specs.Rows.{isSlave, levelOf}
 use Rattle.channel.specs.declared.Request.{Request}
-use Rattle.sound.specs.Rows.{isSlave, slaveFor, levelOf, slaveOf}
+use Rattle.channel.specs.Slave.{slaveFor, slaveOf}
 
 -- "3: post: length 0 or above 4,096, direction or space above 1"
 unfoldable pub isInRange : Request → Bool
@@ -23,8 +24,9 @@ isInsideSlave setup q = isSlave (slaveFor (setup .slaves) q)
 abbrev pub isOutsideMaster : Setup → Request → Bool
 isOutsideMaster setup q = ltb (setup .master) (q .offset + q .left)
 
-unfoldable pub requestVerdict : Setup → Request → Verdict
-requestVerdict setup q =
+-- the first of them that a level's request meets
+unfoldable pub requestVerdict : Setup → ℕ → Request → Verdict
+requestVerdict setup l q =
     refusedBy ((3, not (isInRange q)) ∷ (4, not (isInsideSlave setup q)) ∷ (5, isOutsideMaster setup q) ∷ []) Accepted
 
 -- the time of the transfer of a level that holds the next byte of a request: the running or next one

@@ -1,5 +1,5 @@
 -- Document 01, "Unsound": a definition for each clause, in its order. Each is true where the clause does not hold; a channel is sound where all are.
-use Prim.Native.Nat.{ℕ, _+_}
+use Prim.Native.Nat.{ℕ}
 use mathlib.Core.Bool.{Bool, true, false, cond, not, _&&_, _||_}
 use mathlib.Core.List.{List}
 use lib.Dec.{eqb, leb}
@@ -7,6 +7,11 @@ use Rattle.refusal.specs.Refusal.{isAccepted}
 use Rattle.basics.specs.Scan.{allBelow}
 use Rattle.frame.specs.declared.LevelRows.{LevelRows}
 use Rattle.frame.specs.declared.Setup.{Setup}
+use Rattle.frame.specs.declared.Store.{Store}
+use Rattle.frame.specs.Frame.{isFramed}
+use Rattle.frame.specs.Find.{storeIf}
+use Rattle.frame.specs.Rows.{isFair, isPresent, levelOf}
+use Rattle.frame.specs.Allowance.{allowance, isWithin}
 use Rattle.channel.specs.declared.Phase.{Phase}
 use Rattle.channel.specs.declared.Phase.the-variants.{Arbitrating, Granted}
 use Rattle.channel.specs.declared.Asked.{Asked}
@@ -15,20 +20,11 @@ use Rattle.channel.specs.declared.Channel.{Channel}
 use Rattle.channel.specs.declared.Request.{Request}
 use Rattle.channel.specs.Channel.{hasRequest, requestOf}
 use Rattle.channel.specs.Line.{isInactive, line}
-use Rattle.sound.specs.Rows.{isPresent, levelOf, isFair}
 use Rattle.sound.specs.Request.{requestVerdict, transferOf}
 
 -- "a clock in ns, up to 4,000,000,000"
 abbrev pub clockLimit : ℕ
 clockLimit = 4000000000
-
--- "The number is 7,800 ns."
-unfoldable pub allowance : Setup → ℕ
-allowance setup = 7800
-
--- what takes so long from the clock on ends within the allowance after t
-unfoldable pub isWithin : ℕ → ℕ → ℕ → ℕ → Bool
-isWithin allowed duration clock t = leb (duration + clock) (t + allowed)
 
 -- "granted to an absent level, or to one other than 15 without a request, or to an inactive one"
 unfoldable pub isGrantSound : LevelRows → Channel → ℕ → Bool
@@ -50,7 +46,7 @@ isBlank q = eqb (q .direction) 0 && (eqb (q .space) 0 && (eqb (q .address) 0 && 
 -- "an open request at an absent level or whose rest would meet 3, 4 or 5"
 abbrev pub requestSound : Setup → ℕ → Request → Bool
 requestSound setup l q =
-    cond (eqb (q .left) 0) (isBlank q) (isPresent (setup .levels) l && isAccepted (requestVerdict setup q))
+    cond (eqb (q .left) 0) (isBlank q) (isPresent (setup .levels) l && isAccepted (requestVerdict setup l q))
 
 unfoldable pub isRequestSound : Setup → Channel → ℕ → Bool
 isRequestSound setup ch l = requestSound setup l (requestOf ch l)
@@ -88,8 +84,15 @@ askedSound setup ch active (Granted owner) (At t) = isAskedAt setup ch active ow
 unfoldable pub isAskedSound : Setup → Channel → Bool → Bool
 isAskedSound setup ch active = askedSound setup ch active (ch .phase) (ch .asked)
 
--- the channel is sound
+-- the channel is sound: owner, requests, marks, clock and asked time
 unfoldable pub isSound : Setup → Channel → Bool
 isSound setup ch =
-    (isOwnerSound (setup .levels) ch && areRequestsSound setup ch)
-    && (areMarksSound (setup .levels) (ch .inactive) (line ch) && (isClockSound ch && isAskedSound setup ch (line ch)))
+    isOwnerSound (setup .levels) ch
+    && (areRequestsSound setup ch
+    && (areMarksSound (setup .levels) (ch .inactive) (line ch)
+    && (isClockSound ch
+    && isAskedSound setup ch (line ch))))
+
+-- "the slave store, as long as all rows together": its length, of a set-up that keeps the frame and a channel that is sound, which meet no 9
+unfoldable pub soundStore : Setup → Channel → Store
+soundStore setup ch = storeIf (isFramed setup && isSound setup ch) (setup .slaves)

@@ -1,5 +1,5 @@
 -- The tests of `Sound` as the functions make them: what a level's row says is looked up in arrays by level number, and the places without a request
--- are tested apart from the open requests. That they are those tests is shown in the law `tested-sound`.
+-- are tested apart from the open requests. That they are those tests is shown in proofs/TableLaws, and put together in the law `clauses-sound`.
 use Prim.Native.Nat.{ℕ, _+_, _<_}
 use mathlib.Core.Path.{_≡_}
 use mathlib.Core.Bool.{Bool, true, false, not, _&&_, _||_}
@@ -12,16 +12,19 @@ use Rattle.frame.specs.declared.LevelRows.{LevelRows}
 use Rattle.frame.specs.declared.Setup.{Setup}
 use Rattle.frame.specs.declared.FoundLevel.{FoundLevel}
 use Rattle.frame.specs.declared.FoundLevel.the-variants.{Missing, Row}
+use Rattle.frame.specs.Frame.{levelsFit}
 use Rattle.frame.specs.Find.{levelRow}
+use Rattle.frame.specs.Rows.{isFair, isLevel}
 use Rattle.channel.specs.declared.Phase.{Phase}
 use Rattle.channel.specs.declared.Phase.the-variants.{Arbitrating, Granted}
 use Rattle.channel.specs.declared.Asked.{Asked}
 use Rattle.channel.specs.declared.Asked.the-variants.{Never, At}
+use Rattle.channel.specs.declared.Channel.{Channel}
 use Rattle.channel.specs.declared.Request.{Request}
 use Rattle.channel.specs.Channel.{hasRequest}
 use Rattle.channel.specs.Line.{isInactive}
 use Rattle.sound.specs.declared.Members.{Members}
-use Rattle.sound.specs.Rows.{isLevel, isFair}
+use Rattle.sound.specs.declared.Seats.{Seats}
 use Rattle.sound.specs.Request.{isInRange, requestVerdict}
 use Rattle.sound.specs.Sound.{isBlank, isInTime}
 
@@ -37,6 +40,29 @@ Tells levels asked table = (l : ℕ) → l < 16 → getD table l false ≡ asked
 pub record AreMembers (levels : LevelRows) (members : Members) : Type 0 where
   pub present : Tells levels isLevel (members .present)
   pub fair : Tells levels isFairRow (members .fair)
+
+-- the two arrays as one, and a channel's parts
+abbrev pub membersAt : List Bool → List Bool → Members
+membersAt present fair = record { present = present; fair = fair }
+
+abbrev pub channelAt : Phase → Asked → ℕ → List Bool → List ℕ → List ℕ → List ℕ → List ℕ → List ℕ → Channel
+channelAt phase asked clock inactive direction space address left offset =
+    record {
+      phase = phase;
+      asked = asked;
+      clock = clock;
+      inactive = inactive;
+      direction = direction;
+      space = space;
+      address = address;
+      left = left;
+      offset = offset;
+    }
+
+-- the test of the level rows, and the two arrays where they keep the frame
+pub record AreSeats (levels : LevelRows) (seats : Seats) : Type 0 where
+  pub fits : seats .fits ≡ levelsFit levels
+  pub members : levelsFit levels ≡ true → AreMembers levels (membersAt (seats .present) (seats .fair))
 
 -- the owner
 abbrev pub grantFits : List Bool → List ℕ → List Bool → ℕ → Bool
@@ -59,29 +85,27 @@ requestAt direction space address left offset l =
       offset = getD offset l 0;
     }
 
--- the places without a request
-abbrev pub isBlankAt : List ℕ → List ℕ → List ℕ → List ℕ → List ℕ → ℕ → Bool
-isBlankAt direction space address left offset l =
-    hasRequest left l || isBlank (requestAt direction space address left offset l)
+-- the places without a request, of the rests of all levels
+abbrev pub isBlankOr : Request → Bool
+isBlankOr q = not (eqb (q .left) 0) || isBlank q
 
-unfoldable pub areBlank : List ℕ → List ℕ → List ℕ → List ℕ → List ℕ → Bool
-areBlank direction space address left offset = allBelow (isBlankAt direction space address left offset) 16
-
--- the open requests
-abbrev pub openSound : Setup → Bool → Request → Bool
-openSound setup present q = eqb (q .left) 0 || (present && isAccepted (requestVerdict setup q))
-
-abbrev pub isOpenSound : Setup → List Bool → List ℕ → List ℕ → List ℕ → List ℕ → List ℕ → ℕ → Bool
-isOpenSound setup present direction space address left offset l =
-    openSound setup (getD present l false) (requestAt direction space address left offset l)
-
-unfoldable pub areOpenSound : Setup → List Bool → List ℕ → List ℕ → List ℕ → List ℕ → List ℕ → Bool
-areOpenSound setup present direction space address left offset =
-    allBelow (isOpenSound setup present direction space address left offset) 16
+unfoldable pub areBlank : (ℕ → Request) → Bool
+areBlank rest = allBelow (λ (l : ℕ). isBlankOr (rest l)) 16
 
 -- an open request whose range a slave row holds
 abbrev pub restFits : Bool → ℕ → Request → Bool
 restFits present master q = present && (isInRange q && not (ltb master (q .offset + q .left)))
+
+-- the open requests
+abbrev pub openSound : Setup → Bool → ℕ → Request → Bool
+openSound setup present l q = eqb (q .left) 0 || (present && isAccepted (requestVerdict setup l q))
+
+unfoldable pub areOpenSound : Setup → List Bool → (ℕ → Request) → Bool
+areOpenSound setup present rest = allBelow (λ (l : ℕ). openSound setup (getD present l false) l (rest l)) 16
+
+-- the requests
+abbrev pub requestsFit : Setup → List Bool → (ℕ → Request) → Bool
+requestsFit setup present rest = areBlank rest && areOpenSound setup present rest
 
 -- the marks
 unfoldable pub areMarked : List Bool → List Bool → Bool → Bool

@@ -4,84 +4,18 @@ use channel::Asked;
 use channel::Channel;
 use channel::Phase;
 use channel::Request;
-use frame::FoundLevel;
 use frame::FoundSlave;
-use frame::LevelRow;
 use frame::LevelRows;
 use frame::Setup;
-use frame::SlaveRow;
-use frame::SlaveRows;
+use frame::Store;
 use refusal::Refusal;
 use refusal::Verdict;
 ghost use mathlib.Core.Path.{_≡_};
 ghost use Prim.Native.Nat.{_<_, _+_};
-ghost use lib.Dec.{ltb};
-ghost use Rattle.sound.specs.Rows.{isPresent, levelOf, slaveOf, hasBurst, isFair, hasLinger};
+ghost use lib.Dec.{leb, ltb};
 ghost use Rattle.sound.specs.Request.{isInRange, requestVerdict, transferOf};
-ghost use Rattle.sound.specs.Sound.{allowance, isWithin, isBlank, isInTime, isSound};
-ghost use Rattle.sound.specs.Tables.{AreMembers, grantFits, ownerFits, requestAt, areBlank, restFits, areOpenSound, areMarked, askedFits};
-
-// The level is in the set-up.
-pub fn is_present(levels: LevelRows, level: u32) -> bool
-    ensures { λ r. ⌜ r ≡ isPresent levels level ⌝ }
-{
-    let found = frame::level_row(levels, level);
-    match found {
-        FoundLevel::Missing => false,
-        FoundLevel::Row(_) => true,
-    }
-}
-
-// A level's row, or a row of zeros.
-pub fn level_of(levels: LevelRows, level: u32) -> LevelRow
-    ensures { λ r. ⌜ r ≡ levelOf levels level ⌝ }
-{
-    let found = frame::level_row(levels, level);
-    match found {
-        FoundLevel::Missing => LevelRow {
-            level: 0,
-            width: 0,
-            options: 0,
-        },
-        FoundLevel::Row(row) => row,
-    }
-}
-
-// The slave row of a request, or a row of zeros.
-pub fn slave_of(slaves: SlaveRows, request: Request) -> SlaveRow
-    ensures { λ r. ⌜ r ≡ slaveOf slaves request ⌝ }
-{
-    let found = frame::slave_row(slaves, request.space, request.address, request.left);
-    match found {
-        FoundSlave::Missing => SlaveRow {
-            space: 0,
-            base: 0,
-            length: 0,
-            port: 0,
-            time: 0,
-        },
-        FoundSlave::Row(row, _) => row,
-    }
-}
-
-// Options: 1 burst, 2 fair, 4 linger, added.
-pub fn has_burst(options: u32) -> bool
-    ensures { λ r. ⌜ r ≡ hasBurst options ⌝ }
-{
-    options % 2 == 1
-}
-
-pub fn is_fair(options: u32) -> bool
-    ensures { λ r. ⌜ r ≡ isFair options ⌝ }
-{
-    options / 2 % 2 == 1
-}
-
-pub fn has_linger(options: u32) -> bool
-    ensures { λ r. ⌜ r ≡ hasLinger options ⌝ }
-{
-    options / 4 % 2 == 1
-}
+ghost use Rattle.sound.specs.Sound.{clockLimit, isBlank, isInTime, isSound, soundStore};
+ghost use Rattle.sound.specs.Tables.{membersAt, AreMembers, AreSeats, channelAt, grantFits, ownerFits, requestAt, areBlank, restFits, areOpenSound, requestsFit, areMarked, askedFits};
 
 // Length, direction and space of a request are in range.
 fn is_in_range(request: Request) -> bool
@@ -97,9 +31,9 @@ fn is_past_master(master: u32, request: Request) -> bool
     (master as u64) < request.offset as u64 + request.left as u64
 }
 
-// Refusals 3, 4 and 5 of a request, or of what is left of one.
-pub fn request_verdict(setup: Setup, request: Request) -> Verdict
-    ensures { λ r. ⌜ r ≡ requestVerdict setup request ⌝ }
+// Refusals 3, 4 and 5 of a level's request, or of what is left of one.
+pub fn request_verdict(setup: Setup, level: u32, request: Request) -> Verdict
+    ensures { λ r. ⌜ r ≡ requestVerdict setup level request ⌝ }
 {
     if !is_in_range(request) {
         return Verdict::Refused(Refusal::OutOfRange);
@@ -123,8 +57,8 @@ pub fn transfer_of(setup: Setup, level: u32, request: Request) -> u64
 {
     let levels = setup.levels;
     let slaves = setup.slaves;
-    let row = level_of(levels, level);
-    let slave = slave_of(slaves, request);
+    let row = frame::level_of(levels, level);
+    let slave = channel::slave_of(slaves, request);
     cycle::transfer_time(
         row.width,
         slave.port,
@@ -162,10 +96,54 @@ fn members_of(levels: LevelRows) -> Members
         if row.level < 16 {
             let at = row.level as usize;
             present[at] = true;
-            fair[at] = is_fair(row.options);
+            fair[at] = frame::is_fair(row.options);
         }
     }
     Members {
+        present: present,
+        fair: fair,
+    }
+}
+
+// The same of rows that keep the frame, and whether they do: one pass for both.
+struct Seats {
+    fits: bool,
+    present: [bool; 16],
+    fair: [bool; 16],
+}
+
+fn seats_of(levels: LevelRows) -> Seats
+    ensures { λ r. ⌜ AreSeats levels r ⌝ }
+{
+    let mut present = [false; 16];
+    let mut fair = [false; 16];
+    let count = levels.count;
+    if !frame::is_row_count(count) {
+        return Seats {
+            fits: false,
+            present: present,
+            fair: fair,
+        };
+    }
+    let mut i: usize = count;
+    while 0 < i {
+        i -= 1;
+        let row = levels.rows[i];
+        let above = if i == 0 { 0 } else { i - 1 };
+        let before = levels.rows[above];
+        if !frame::level_fits(row, before.level, i, count) {
+            return Seats {
+                fits: false,
+                present: present,
+                fair: fair,
+            };
+        }
+        let at = row.level as usize;
+        present[at] = true;
+        fair[at] = frame::is_fair(row.options);
+    }
+    Seats {
+        fits: true,
         present: present,
         fair: fair,
     }
@@ -212,7 +190,8 @@ fn request_at<'a>(
     level: usize,
 ) -> Request
     requires { ⌜ level < 16 ⌝ }
-    ensures { λ r. ⌜ r ≡ requestAt (now (direction .entry)) (now (space .entry)) (now (address .entry)) (now (left .entry)) (now (offset .entry)) level ⌝ }
+    ensures { λ r. ⌜ r ≡ requestAt (now (direction .entry)) (now (space .entry)) (now (address .entry))
+        (now (left .entry)) (now (offset .entry)) level ⌝ }
 {
     Request {
         direction: direction[level],
@@ -231,7 +210,8 @@ fn are_blank<'a>(
     left: &'a [u32; 16],
     offset: &'a [u32; 16],
 ) -> bool
-    ensures { λ r. ⌜ r ≡ areBlank (now (direction .entry)) (now (space .entry)) (now (address .entry)) (now (left .entry)) (now (offset .entry)) ⌝ }
+    ensures { λ r. ⌜ r ≡ areBlank (requestAt (now (direction .entry)) (now (space .entry)) (now (address .entry))
+        (now (left .entry)) (now (offset .entry))) ⌝ }
 {
     let mut all = true;
     let mut level: usize = 0;
@@ -262,7 +242,7 @@ fn are_open_sound<'a>(
     offset: &'a [u32; 16],
 ) -> bool
     ensures { λ r. ⌜ r ≡ areOpenSound setup (now (present .entry))
-        (now (direction .entry)) (now (space .entry)) (now (address .entry)) (now (left .entry)) (now (offset .entry)) ⌝ }
+        (requestAt (now (direction .entry)) (now (space .entry)) (now (address .entry)) (now (left .entry)) (now (offset .entry))) ⌝ }
 {
     let slaves = setup.slaves;
     let count = if slaves.count < 16 { slaves.count } else { 16 };
@@ -292,35 +272,44 @@ fn are_open_sound<'a>(
     true
 }
 
+// Every level's request is sound. Each test that fails ends it: in one expression the compiler would mix the two loops.
+fn are_requests_sound<'a>(
+    setup: Setup,
+    present: &'a [bool; 16],
+    direction: &'a [u32; 16],
+    space: &'a [u32; 16],
+    address: &'a [u32; 16],
+    left: &'a [u32; 16],
+    offset: &'a [u32; 16],
+) -> bool
+    ensures { λ r. ⌜ r ≡ requestsFit setup (now (present .entry))
+        (requestAt (now (direction .entry)) (now (space .entry)) (now (address .entry)) (now (left .entry)) (now (offset .entry))) ⌝ }
+{
+    if !are_blank(direction, space, address, left, offset) {
+        return false;
+    }
+    are_open_sound(setup, present, direction, space, address, left, offset)
+}
+
 // Every inactive mark stands at a present, fair level, and only while the line is active.
 fn are_marks_sound<'a>(fair: &'a [bool; 16], inactive: &'a [bool; 16], active: bool) -> bool
     ensures { λ r. ⌜ r ≡ areMarked (now (fair .entry)) (now (inactive .entry)) active ⌝ }
 {
-    let mut all = true;
     let mut level: usize = 0;
     while level < 16 {
-        all = all & (!inactive[level] | (fair[level] & active));
+        if !(!inactive[level] | (fair[level] & active)) {
+            return false;
+        }
         level += 1;
     }
-    all
+    true
 }
 
-// How long a preempted owner may still hold the channel.
-pub fn allowance_of(setup: Setup) -> u32
-    ensures { λ r. ⌜ r ≡ allowance setup ⌝ }
+// The clock is at most the limit.
+fn is_clock_sound(clock: u32) -> bool
+    ensures { λ r. ⌜ r ≡ leb clock clockLimit ⌝ }
 {
-    7800
-}
-
-// What takes so long from the clock on ends within the allowance after `t`. No sum here can wrap.
-pub fn is_within(allowed: u32, duration: u64, clock: u32, t: u32) -> bool
-    ensures { λ r. ⌜ r ≡ isWithin allowed duration clock t ⌝ }
-{
-    let latest = t as u64 + allowed as u64;
-    if latest < clock as u64 {
-        return false;
-    }
-    duration <= latest - clock as u64
+    clock <= 4000000000
 }
 
 // Asked at `t`, the owner's running or next transfer ends within the allowance; without a request `t` is the clock.
@@ -330,8 +319,8 @@ fn is_in_time(setup: Setup, owner: u32, request: Request, clock: u32, t: u32) ->
     if request.left == 0 {
         return t == clock;
     }
-    is_within(
-        allowance_of(setup),
+    frame::is_within(
+        frame::allowance_of(setup),
         transfer_of(setup, owner, request),
         clock,
         t,
@@ -368,49 +357,90 @@ fn is_asked_sound(
     }
 }
 
-// The channel is sound. Each test that fails ends it: in one expression the compiler would mix the loops of two tests.
+// A test for each clause. The owner's comes first, as the asked time goes by the owner's request.
+fn are_clauses_sound<'a>(
+    setup: Setup,
+    present: &'a [bool; 16],
+    fair: &'a [bool; 16],
+    phase: Phase,
+    asked: Asked,
+    clock: u32,
+    inactive: &'a [bool; 16],
+    direction: &'a [u32; 16],
+    space: &'a [u32; 16],
+    address: &'a [u32; 16],
+    left: &'a [u32; 16],
+    offset: &'a [u32; 16],
+) -> bool
+    requires { ⌜ AreMembers (setup .levels) (membersAt (now present) (now fair)) ⌝ }
+    ensures { λ r. ⌜ r ≡ isSound setup (channelAt phase asked clock (now (inactive .entry)) (now (direction .entry)) (now (space .entry))
+        (now (address .entry)) (now (left .entry)) (now (offset .entry))) ⌝ }
+{
+    if !is_owner_sound(present, left, inactive, phase) {
+        return false;
+    }
+    let requests = are_requests_sound(setup, present, direction, space, address, left, offset);
+    let active = channel::line_active(left, inactive, phase);
+    let marks = are_marks_sound(fair, inactive, active);
+    let owner = channel::place_of(phase);
+    let rest = request_at(direction, space, address, left, offset, owner);
+    let time = is_asked_sound(setup, rest, clock, active, phase, asked);
+    requests & (marks & (is_clock_sound(clock) & time))
+}
+
+// The channel is sound.
 pub fn is_sound(setup: Setup, channel: Channel) -> bool
     ensures { λ r. ⌜ r ≡ isSound setup channel ⌝ }
 {
     let levels = setup.levels;
     let phase = channel.phase;
-    let members = members_of(levels);
-    if !is_owner_sound(&members.present, &channel.left, &channel.inactive, phase) {
-        return false;
-    }
-    let blank = are_blank(
-        &channel.direction,
-        &channel.space,
-        &channel.address,
-        &channel.left,
-        &channel.offset,
-    );
-    if !blank {
-        return false;
-    }
-    let active = channel::line_active(&channel.left, &channel.inactive, phase);
-    let marked = are_marks_sound(&members.fair, &channel.inactive, active);
-    let request = request_at(
-        &channel.direction,
-        &channel.space,
-        &channel.address,
-        &channel.left,
-        &channel.offset,
-        channel::place_of(phase),
-    );
     let asked = channel.asked;
-    let clock = channel.clock;
-    let timed = (clock <= 4000000000) & is_asked_sound(setup, request, clock, active, phase, asked);
-    if !(marked & timed) {
-        return false;
-    }
-    are_open_sound(
+    let members = members_of(levels);
+    are_clauses_sound(
         setup,
         &members.present,
+        &members.fair,
+        phase,
+        asked,
+        channel.clock,
+        &channel.inactive,
         &channel.direction,
         &channel.space,
         &channel.address,
         &channel.left,
         &channel.offset,
     )
+}
+
+// How long the slave store of a set-up that keeps the frame is, while the channel is sound. The level rows are copied, and
+// gone through, once for both tests: every step pays for them.
+pub fn sound_store(setup: Setup, channel: Channel) -> Store
+    ensures { λ r. ⌜ r ≡ soundStore setup channel ⌝ }
+{
+    let levels = setup.levels;
+    let seats = seats_of(levels);
+    if !(seats.fits & frame::is_master_length(setup.master)) {
+        return Store::Broken;
+    }
+    let phase = channel.phase;
+    let asked = channel.asked;
+    let sound = are_clauses_sound(
+        setup,
+        &seats.present,
+        &seats.fair,
+        phase,
+        asked,
+        channel.clock,
+        &channel.inactive,
+        &channel.direction,
+        &channel.space,
+        &channel.address,
+        &channel.left,
+        &channel.offset,
+    );
+    if !sound {
+        return Store::Broken;
+    }
+    let slaves = setup.slaves;
+    frame::slave_store(slaves)
 }

@@ -1,6 +1,6 @@
 -- Each act takes a sound channel to a settled one, and the line rule makes it sound: a step keeps soundness.
 use Prim.Native.Nat.{ℕ, _+_, _≤_, _<_}
-use mathlib.Core.Path.{_≡_, refl, sym, ap, ap₂, _∙_}
+use mathlib.Core.Path.{_≡_, refl, sym, ap, _∙_, ap₂}
 use mathlib.Core.Bool.{Bool, true, false, not, and-false, false≢true}
 use mathlib.Core.Logic.{inl, inr, ⊎-elim}
 use mathlib.Core.List.{List}
@@ -11,44 +11,41 @@ use lib.ListN.{length, length-set}
 use lib.Seq.{getD-set-other}
 use Rattle.basics.proofs.ScanLaws.{any-ext}
 use Rattle.basics.proofs.Tests.{by-test, or-none}
-use Rattle.cycle.specs.Cycle.{isTransferEnd, transferTime}
-use Rattle.cycle.proofs.TransferLaws.{time-left}
 use Rattle.frame.specs.Frame.{isFramed}
 use Rattle.frame.specs.declared.Setup.{Setup}
-use Rattle.frame.specs.declared.FoundSlave.the-variants.{Row as Slave}
-use Rattle.frame.specs.Find.{slaveRow}
 use Rattle.refusal.specs.declared.Verdict.the-variants.{Accepted}
-use Rattle.frame.proofs.FrameLaws.{framed-levels, framed-slaves, fifteen-present}
-use Rattle.frame.proofs.SlaveLaws.{found-part}
+use Rattle.frame.proofs.FrameLaws.{framed-levels, fifteen-present}
 use Rattle.channel.specs.declared.Phase.{Phase}
 use Rattle.channel.specs.declared.Phase.the-variants.{Arbitrating, Granted}
 use Rattle.channel.specs.declared.Asked.{Asked}
 use Rattle.channel.specs.declared.Asked.the-variants.{Never, At}
 use Rattle.channel.specs.declared.Channel.{Channel}
 use Rattle.channel.specs.declared.Request.{Request}
-use Rattle.channel.specs.Channel.{ownerOf, hasRequest, requestOf, withRequest, Shaped}
+use Rattle.channel.specs.Channel.{ownerOf, hasRequest, requestOf, noRequest, withRequest, Shaped}
 use Rattle.channel.specs.Line.{isInactive, drives, lineActive, line, winner}
 use Rattle.channel.proofs.LineLaws.{waits-is, winner-is, none-waits}
-use Rattle.channel.proofs.RequestLaws.{request-same, request-other, with-shaped, rule-shaped}
-use Rattle.sound.specs.Rows.{isPresent, levelOf, slaveOr, startOr, slaveOf, startOf, hasBurst, isFair, hasLinger}
-use Rattle.sound.specs.Request.{requestVerdict, transferOf}
-use Rattle.sound.specs.Sound.{clockLimit, allowance, isWithin, isBlank, isInTime}
+use Rattle.channel.proofs.RequestLaws.{request-same, request-other, with-shaped, changed-shaped, rule-shaped}
+use Rattle.frame.specs.Allowance.{allowance, isWithin}
+use Rattle.frame.specs.Rows.{isPresent, levelOf, hasBurst, isFair, hasLinger}
+use Rattle.channel.specs.Slave.{slaveOf, startOf}
+use Rattle.sound.specs.Request.{requestVerdict}
+use Rattle.sound.specs.Sound.{clockLimit, isBlank, isInTime}
 use Rattle.sound.proofs.SoundFacts.{Grant as MayOwn, InTime, Settled, Sound}
 use Rattle.sound.proofs.RuleLaws.{rule-sound}
-use Rattle.sound.proofs.RequestFacts.{Fits, fits-is, fits-by, level-facts-of, slave-facts-of}
+use Rattle.sound.proofs.RequestFacts.{Fits, fits-is, fits-by}
 use Rattle.act.specs.declared.Path.{Path}
 use Rattle.act.specs.declared.Ending.{Ending}
 use Rattle.act.specs.declared.Ending.the-variants.{Kept, Released, Marked}
 use Rattle.act.specs.Cycle.{
+  Cycle,
   pathOf,
-  restAfter,
-  noRequest,
-  slotAfter,
+  cycleOf,
   lateFor,
   isLate,
   isLeaving,
   releasedBy,
   endingOf,
+  endingAt,
   clocked,
   freed,
   markedAt,
@@ -57,8 +54,9 @@ use Rattle.act.specs.Cycle.{
   cycleTurn,
 }
 use Rattle.act.specs.Turn.{arbitrationTime, granted, grantTurn, leaveTurn}
+use Rattle.step.proofs.CycleFacts.{Leaves, Takes, rest-slave, rest-start, rest-path, rest-fits, cycle-leaves, cycle-takes}
 use Rattle.step.specs.declared.Plan.{Plan}
-use Rattle.step.specs.declared.Plan.the-variants.{Idle, Refused, Grant, Leave, Cycle}
+use Rattle.step.specs.declared.Plan.the-variants as plan
 use Rattle.step.specs.Plan.{actPlan}
 use Rattle.step.specs.Step.{advancedBy}
 use Rattle.step.proofs.PlanLaws.{says}
@@ -122,35 +120,32 @@ module _ (setup : Setup) (framed : isFramed setup ≡ true) (ch : Channel) (s : 
         asked = λ o t f a. let z : _≡_ {A = ℕ} 0 1 = cc in absurd (omega arith);
       }
 
--- the names of one cycle: the owner's path, what is left of its request, and the channel moved on
+-- the names of one cycle: the owner's path and next cycle, the clock after it, what it leaves of the request, the channel moved on, whether the owner
+-- then releases it, and the channel after that
 abbrev pub pathAt : Setup → Channel → ℕ → Path
 pathAt setup ch o = pathOf setup o (requestOf ch o)
 
+abbrev pub nextCycle : Setup → Channel → ℕ → Cycle
+nextCycle setup ch o = cycleOf (pathAt setup ch o) (requestOf ch o)
+
+abbrev pub clockAt : Setup → Channel → ℕ → ℕ
+clockAt setup ch o = ch .clock + nextCycle setup ch o .time
+
 abbrev pub restAt : Setup → Channel → ℕ → Request
-restAt setup ch o = restAfter (pathAt setup ch o) (requestOf ch o)
+restAt setup ch o = nextCycle setup ch o .rest
 
 abbrev pub movedAt : Setup → Channel → ℕ → Channel
-movedAt setup ch o = movedOn (pathAt setup ch o) ch o (requestOf ch o)
+movedAt setup ch o = movedOn ch o (nextCycle setup ch o)
+
+abbrev pub leavesAt : Setup → Channel → ℕ → Bool
+leavesAt setup ch o = isLeaving (pathAt setup ch o) (ch .asked) (clockAt setup ch o) (nextCycle setup ch o)
+
+abbrev pub endedAt : Setup → Channel → ℕ → Channel
+endedAt setup ch o = endedBy (endingAt (pathAt setup ch o) ch (nextCycle setup ch o)) (movedAt setup ch o) o
 
 pub clocked-shaped : (ch : Channel) (k : ℕ) → Shaped ch → Shaped (clocked ch k)
 unfolding clocked
-clocked-shaped ch k s =
-    record {
-      inactive = s .inactive;
-      direction = s .direction;
-      space = s .space;
-      address = s .address;
-      left = s .left;
-      offset = s .offset;
-    }
-
-slot-done : (q : Request) → eqb (q .left) 0 ≡ true → slotAfter q ≡ noRequest
-unfolding slotAfter
-slot-done q e = rw e
-
-slot-open : (q : Request) → eqb (q .left) 0 ≡ false → slotAfter q ≡ q
-unfolding slotAfter
-slot-open q e = rw e
+clocked-shaped ch k s = changed-shaped ch (ch .phase) (ch .asked) k (ch .inactive) (s .inactive) s
 
 no-blank : isBlank noRequest ≡ true
 unfolding isBlank
@@ -166,90 +161,68 @@ module _ (setup : Setup) (framed : isFramed setup ≡ true) (ch : Channel) (shap
   present : isPresent (setup .levels) o ≡ true
   present = s .settled .owner o phase .present
 
-  fits : Fits setup (requestOf ch o)
-  fits = fits-is setup (requestOf ch o) (s .settled .request o (omega (arith, small)) asks .1)
+  fits : Fits setup o (requestOf ch o)
+  fits = fits-is setup o (requestOf ch o) (s .settled .request o (omega (arith, small)) asks .1)
 
-  -- what is left lies in the same row
-  part : 0 < restAt setup ch o .left
-      → slaveRow (setup .slaves) (restAt setup ch o .space) (restAt setup ch o .address) (restAt setup ch o .left)
-      ≡ Slave (slaveOf (setup .slaves) (requestOf ch o)) (startOf (setup .slaves) (requestOf ch o))
-  unfolding restAfter
-  part h =
-      found-part (setup .slaves) (framed-slaves setup framed) (requestOf ch o .space) (requestOf ch o .address) (requestOf ch o .left)
-      (restAt setup ch o .address) (restAt setup ch o .left) _ _ (fits .found) (omega arith) (omega arith) h
+  -- all that is known of the cycle
+  pub leaves : Leaves (requestOf ch o) (nextCycle setup ch o)
+  leaves = cycle-leaves setup framed o present (requestOf ch o) fits
 
+  pub takes : Takes setup o (requestOf ch o) (nextCycle setup ch o)
+  takes = cycle-takes setup framed o present (requestOf ch o) fits
+
+  -- what it leaves goes the same way
   pub same-slave : 0 < restAt setup ch o .left → slaveOf (setup .slaves) (restAt setup ch o) ≡ slaveOf (setup .slaves) (requestOf ch o)
-  unfolding slaveOf
-  same-slave h = ap slaveOr (part h)
+  same-slave h = rest-slave setup framed (requestOf ch o) fits (nextCycle setup ch o) leaves h
 
   pub same-start : 0 < restAt setup ch o .left → startOf (setup .slaves) (restAt setup ch o) ≡ startOf (setup .slaves) (requestOf ch o)
-  unfolding startOf
-  same-start h = ap startOr (part h)
+  same-start h = rest-start setup framed (requestOf ch o) fits (nextCycle setup ch o) leaves h
 
-  rest-fits : 0 < restAt setup ch o .left → Fits setup (restAt setup ch o)
-  unfolding restAfter
-  rest-fits h =
-      record {
-        some = h;
-        most = omega (arith, fits .most);
-        direction = fits .direction;
-        space = fits .space;
-        found = part h ∙ sym (ap₂ Slave (same-slave h) (same-start h));
-        master = omega (arith, fits .master);
-      }
+  pub same-path : 0 < restAt setup ch o .left → pathOf setup o (restAt setup ch o) ≡ pathAt setup ch o
+  same-path h = rest-path setup framed (requestOf ch o) fits (nextCycle setup ch o) leaves o h
 
   -- the requests afterwards
-  pub here : (m : ℕ) → m ≡ o → requestOf (movedAt setup ch o) m ≡ slotAfter (restAt setup ch o)
+  pub here : (m : ℕ) → m ≡ o → requestOf (movedAt setup ch o) m ≡ restAt setup ch o
   unfolding movedOn
   here m e =
       rw e
-      (request-same (clocked ch (ch .clock + pathAt setup ch o .time)) o (slotAfter (restAt setup ch o))
-      (clocked-shaped ch (ch .clock + pathAt setup ch o .time) shaped) (omega (arith, small)))
+      (request-same (clocked ch (clockAt setup ch o)) o (restAt setup ch o) (clocked-shaped ch (clockAt setup ch o) shaped)
+      (omega (arith, small)))
 
   pub other : (m : ℕ) → (m ≡ o → ⊥) → requestOf (movedAt setup ch o) m ≡ requestOf ch m
   unfolding movedOn clocked
-  other m n = request-other (clocked ch (ch .clock + pathAt setup ch o .time)) o m (slotAfter (restAt setup ch o)) n
+  other m n = request-other (clocked ch (clockAt setup ch o)) o m (restAt setup ch o) n
 
   pub kept-open : (m : ℕ) → (m ≡ o → ⊥) → hasRequest (movedAt setup ch o .left) m ≡ hasRequest (ch .left) m
   kept-open m n = ap (λ (q : Request). not (eqb (q .left) 0)) (other m n)
 
-  here-open : (m : ℕ) → m ≡ o → hasRequest (movedAt setup ch o .left) m ≡ not (eqb (slotAfter (restAt setup ch o) .left) 0)
+  here-open : (m : ℕ) → m ≡ o → hasRequest (movedAt setup ch o .left) m ≡ not (eqb (restAt setup ch o .left) 0)
   here-open m e = ap (λ (q : Request). not (eqb (q .left) 0)) (here m e)
 
   positive : (n : ℕ) → eqb n 0 ≡ false → 0 < n
   positive n e = omega (arith, eqb-false n 0 e)
 
-  -- where the request goes on, its place holds the rest
-  pub goes-on : eqb (restAt setup ch o .left) 0 ≡ false → (m : ℕ) → m ≡ o → requestOf (movedAt setup ch o) m ≡ restAt setup ch o
-  goes-on n m e = here m e ∙ slot-open (restAt setup ch o) n
-
   moved-request : (m : ℕ) → m < 16 → hasRequest (movedAt setup ch o .left) m ≡ true
-      → (isPresent (setup .levels) m ≡ true) × (requestVerdict setup (requestOf (movedAt setup ch o) m) ≡ Accepted)
+      → (isPresent (setup .levels) m ≡ true) × (requestVerdict setup m (requestOf (movedAt setup ch o) m) ≡ Accepted)
   moved-request m k h =
       by-test (eqb m o)
       (λ b.
       let e = eqb-true m o b in
-      by-test (eqb (restAt setup ch o .left) 0)
-      (λ z. absurd (false≢true (sym (here-open m e ∙ ap (λ (q : Request). not (eqb (q .left) 0)) (slot-done (restAt setup ch o) z)) ∙ h)))
-      (λ n. (
-        ap (isPresent (setup .levels)) e ∙ present,
-        ap (requestVerdict setup) (goes-on n m e) ∙ fits-by setup (restAt setup ch o) (rest-fits (positive _ n)),
-      )))
+      let n = not-true (eqb (restAt setup ch o .left) 0) (sym (here-open m e) ∙ h) in
+      let f = rest-fits setup framed (requestOf ch o) fits (nextCycle setup ch o) leaves (positive _ n) in
+      (ap (isPresent (setup .levels)) e ∙ present, ap₂ (requestVerdict setup) e (here m e) ∙ fits-by setup o (restAt setup ch o) f))
       (λ b.
       let n = eqb-false m o b in
       let r = s .settled .request m k (sym (kept-open m n) ∙ h) in
-      (r .0, ap (requestVerdict setup) (other m n) ∙ r .1))
+      (r .0, ap (requestVerdict setup m) (other m n) ∙ r .1))
 
   moved-blank : (m : ℕ) → m < 16 → hasRequest (movedAt setup ch o .left) m ≡ false → isBlank (requestOf (movedAt setup ch o) m) ≡ true
   moved-blank m k h =
       by-test (eqb m o)
       (λ b.
       let e = eqb-true m o b in
-      by-test (eqb (restAt setup ch o .left) 0)
-      (λ z. ap isBlank (here m e ∙ slot-done (restAt setup ch o) z) ∙ no-blank)
-      (λ n.
-      let t : hasRequest (movedAt setup ch o .left) m ≡ true = ap (λ (q : Request). not (eqb (q .left) 0)) (goes-on n m e) ∙ rw n in
-      absurd (false≢true (sym h ∙ t))))
+      let z = not-false (eqb (restAt setup ch o .left) 0) (sym (here-open m e) ∙ h) in
+      ap isBlank (here m e ∙ leaves .done (eqb-true _ 0 z)) ∙ no-blank)
       (λ b. let n = eqb-false m o b in ap isBlank (other m n) ∙ s .settled .blank m k (sym (kept-open m n) ∙ h))
 
   -- the line is as it was: the owner has no part in it
@@ -267,62 +240,47 @@ module _ (setup : Setup) (framed : isFramed setup ≡ true) (ch : Channel) (shap
   unfolding lineActive movedOn clocked withRequest
   line-same = any-ext _ _ 16 drives-same
 
-  -- the clock after the cycle
-  unfoldable pub clockAfter : ℕ
-  clockAfter = ch .clock + pathAt setup ch o .time
-
-  -- the time of a transfer of the rest, by the path of the whole
-  transferAfter : ℕ
-  transferAfter =
-      transferTime (pathAt setup ch o .width) (pathAt setup ch o .port) (pathAt setup ch o .time) (restAt setup ch o .address) (restAt setup ch o .left)
-
-  transfer-same : 0 < restAt setup ch o .left → transferOf setup o (restAt setup ch o) ≡ transferAfter
-  unfolding transferOf transferAfter pathOf
-  transfer-same h = rw (same-slave h)
+  -- the clock has room for the cycle
+  clock-room : clockAt setup ch o ≤ clockLimit
+  clock-room = omega (arith, room, takes .time)
 
   -- an owner that keeps the channel has something left
-  not-done : isLeaving (pathAt setup ch o) (ch .asked) clockAfter (restAt setup ch o) ≡ false → eqb (restAt setup ch o .left) 0 ≡ false
+  not-done : leavesAt setup ch o ≡ false → eqb (restAt setup ch o .left) 0 ≡ false
   unfolding isLeaving
-  not-done e = by-test (eqb (restAt setup ch o .left) 0) (λ t. absurd (false≢true (sym e ∙ rw t))) (λ f. f)
+  not-done e =
+      by-test (eqb (restAt setup ch o .left) 0) (λ t. absurd (false≢true (sym e ∙ rw (leaves .ends (eqb-true _ 0 t), t)))) (λ f. f)
 
   -- inside a transfer its end stays where it was; at its end the release rule says that the next one fits
-  inside-within : (t : ℕ) → InTime setup ch o t
-      → isTransferEnd (pathAt setup ch o .width) (restAt setup ch o .address) (restAt setup ch o .left) ≡ false
-      → isWithin (allowance setup) transferAfter clockAfter t ≡ true
-  unfolding isWithin isInTime transferOf transferAfter clockAfter restAfter pathOf
+  inside-within : (t : ℕ) → InTime setup ch o t → nextCycle setup ch o .ends ≡ false
+      → isWithin (allowance setup) (nextCycle setup ch o .next) (clockAt setup ch o) t ≡ true
+  unfolding isWithin isInTime
   inside-within t i e =
-      let q = requestOf ch o in
-      let w = level-facts-of setup framed o present .0 .width in
-      let p = slave-facts-of setup framed q fits .facts .port in
-      let k = leb-true _ (t + allowance setup) (rw (not-true (eqb (q .left) 0) asks) at (i .kept)) in
-      let d = time-left (pathAt setup ch o .width) (pathAt setup ch o .port) w p (q .address) (q .left) (pathAt setup ch o .time) e in
+      let k = leb-true _ (t + allowance setup) (rw (not-true (eqb (requestOf ch o .left) 0) asks) at (i .kept)) in
+      let d = rw e at (takes .transfer) in
       le-leb _ (t + allowance setup) (omega (arith, k, d))
 
-  end-within : (t : ℕ) → ch .asked ≡ At t → isLeaving (pathAt setup ch o) (ch .asked) clockAfter (restAt setup ch o) ≡ false
-      → isTransferEnd (pathAt setup ch o .width) (restAt setup ch o .address) (restAt setup ch o .left) ≡ true
-      → isWithin (allowance setup) transferAfter clockAfter t ≡ true
-  unfolding isLeaving isLate transferAfter pathOf
+  end-within : (t : ℕ) → ch .asked ≡ At t → leavesAt setup ch o ≡ false → nextCycle setup ch o .ends ≡ true
+      → isWithin (allowance setup) (nextCycle setup ch o .next) (clockAt setup ch o) t ≡ true
+  unfolding isLeaving isLate pathOf
   end-within t a e f =
+      let path = pathAt setup ch o in
       let u = rw f at e in
-      let late = or-none (not (hasBurst (pathAt setup ch o .options))) _ (or-none (eqb (restAt setup ch o .left) 0) _ u .1) .1 in
-      let both = or-none (not (hasLinger (pathAt setup ch o .options))) _ (sym (ap (λ (x : Asked). lateFor (pathAt setup ch o) x clockAfter (restAt setup ch o)) a) ∙ late) in
-      not-false _ (both .1)
+      let late = or-none (not (hasBurst (path .options))) _ (or-none (eqb (restAt setup ch o .left) 0) _ u .1) .1 in
+      let asked = ap (λ (x : Asked). lateFor path x (clockAt setup ch o) (nextCycle setup ch o .next)) a in
+      not-false _ (or-none (not (hasLinger (path .options))) _ (sym asked ∙ late) .1)
 
-  kept-in-time : (t : ℕ) → ch .asked ≡ At t → isLeaving (pathAt setup ch o) (ch .asked) clockAfter (restAt setup ch o) ≡ false
-      → isInTime setup o (requestOf (movedAt setup ch o) o) clockAfter t ≡ true
+  kept-in-time : (t : ℕ) → ch .asked ≡ At t → leavesAt setup ch o ≡ false
+      → isInTime setup o (requestOf (movedAt setup ch o) o) (clockAt setup ch o) t ≡ true
   unfolding isInTime
   kept-in-time t a e =
       let n = not-done e in
-      let i = s .settled .asked o t phase a in
-      ap (λ (q : Request). isInTime setup o q clockAfter t) (goes-on n o refl)
-      ∙ rw (n, transfer-same (positive _ n))
-      (by-test (isTransferEnd (pathAt setup ch o .width) (restAt setup ch o .address) (restAt setup ch o .left))
-      (end-within t a e)
-      (inside-within t i))
+      ap (λ (q : Request). isInTime setup o q (clockAt setup ch o) t) (here o refl)
+      ∙ rw (n, takes .next (positive _ n))
+      (by-test (nextCycle setup ch o .ends) (end-within t a e) (inside-within t (s .settled .asked o t phase a)))
 
   -- kept
-  pub kept-settled : isLeaving (pathAt setup ch o) (ch .asked) clockAfter (restAt setup ch o) ≡ false → Settled setup (movedAt setup ch o)
-  unfolding movedOn clocked withRequest pathOf clockAfter
+  pub kept-settled : leavesAt setup ch o ≡ false → Settled setup (movedAt setup ch o)
+  unfolding movedOn clocked withRequest
   kept-settled e =
       let g = s .settled .owner o phase in
       record {
@@ -332,13 +290,13 @@ module _ (setup : Setup) (framed : isFramed setup ≡ true) (ch : Channel) (shap
             (record {
               small = small;
               present = present;
-              asking = inr (ap (λ (q : Request). not (eqb (q .left) 0)) (goes-on (not-done e) o refl) ∙ rw (not-done e));
+              asking = inr (here-open o refl ∙ rw (not-done e));
               active = g .active;
             });
         request = moved-request;
         blank = moved-blank;
         fair = s .settled .fair;
-        clock = room;
+        clock = clock-room;
         unasked = s .settled .unasked;
         asked = λ p t f a.
             let same : o ≡ p = cc in
@@ -352,16 +310,17 @@ module _ (setup : Setup) (framed : isFramed setup ≡ true) (ch : Channel) (shap
 
   -- released, with the marks as they are then
   freed-settled : (marks : List Bool)
-      → ((l : ℕ) → l < 16 → isInactive marks l ≡ true → (isPresent (setup .levels) l ≡ true) × (isFair (levelOf (setup .levels) l .options) ≡ true))
+      → ((l : ℕ) → l < 16 → isInactive marks l ≡ true → (isPresent (setup .levels) l ≡ true) ×
+      (isFair (levelOf (setup .levels) l .options) ≡ true))
       → Settled setup (freed (movedAt setup ch o) marks)
-  unfolding freed movedOn clocked withRequest pathOf
+  unfolding freed movedOn clocked withRequest
   freed-settled marks h =
       record {
         owner = λ p f. let z : _≡_ {A = ℕ} 0 1 = cc in absurd (omega arith);
         request = moved-request;
         blank = moved-blank;
         fair = h;
-        clock = room;
+        clock = clock-room;
         unasked = λ f. refl;
         asked = λ p t f a. let z : _≡_ {A = ℕ} 0 1 = cc in absurd (omega arith);
       }
@@ -376,7 +335,8 @@ module _ (setup : Setup) (framed : isFramed setup ≡ true) (ch : Channel) (shap
       (ap (isPresent (setup .levels)) q ∙ present, ap (λ (m : ℕ). isFair (levelOf (setup .levels) m .options)) q ∙ f))
       (λ b. s .settled .fair l k (sym (getD-set-other (ch .inactive) o l true false (eqb-false l o b)) ∙ e))
 
-  pub released-settled : (a : Asked) → Settled setup (endedBy (releasedBy (pathAt setup ch o .options) a clockAfter) (movedAt setup ch o) o)
+  pub released-settled : (a : Asked) → Settled setup (endedBy (releasedBy (pathAt setup ch o .options) a (clockAt setup ch o))
+      (movedAt setup ch o) o)
   unfolding pathOf movedOn clocked withRequest
   released-settled Never = freed-settled (ch .inactive) (s .settled .fair)
   released-settled (At t) =
@@ -384,68 +344,60 @@ module _ (setup : Setup) (framed : isFramed setup ≡ true) (ch : Channel) (shap
       (λ f. rw f (freed-settled (markedAt (ch .inactive) o) (marked-fair f)))
       (λ n. rw n (freed-settled (ch .inactive) (s .settled .fair)))
 
-  cycle-settled : Settled setup (endedBy (endingOf (pathAt setup ch o) (ch .asked) clockAfter (restAt setup ch o)) (movedAt setup ch o) o)
+  cycle-settled : Settled setup (endedAt setup ch o)
   unfolding endingOf
-  cycle-settled =
-      by-test (isLeaving (pathAt setup ch o) (ch .asked) clockAfter (restAt setup ch o))
-      (λ t. rw t (released-settled (ch .asked)))
-      (λ f. rw f (kept-settled f))
+  cycle-settled = by-test (leavesAt setup ch o) (λ t. rw t (released-settled (ch .asked))) (λ f. rw f (kept-settled f))
 
 -- a step of a sound channel is sound
 module _ (setup : Setup) (framed : isFramed setup ≡ true) (ch : Channel) (shaped : Shaped ch) (s : Sound setup ch) where
-  cycle-sound : (o : ℕ) → actPlan setup ch ≡ Cycle o → Sound setup (advancedBy setup ch (Cycle o) .channel)
-  unfolding cycleTurn clockAfter
+  cycle-sound : (o : ℕ) → actPlan setup ch ≡ plan.Cycle o → Sound setup (advancedBy setup ch (plan.Cycle o) .channel)
+  unfolding cycleTurn
   cycle-sound o e =
-      let p = says setup ch (Cycle o) e in
-      rule-sound setup framed
-      (endedBy (endingOf (pathAt setup ch o) (ch .asked) (ch .clock + pathAt setup ch o .time) (restAt setup ch o)) (movedAt setup ch o) o)
-      (cycle-settled setup framed ch shaped s o (p .0) (rw (p .1)) (p .2))
+      let p = says setup ch (plan.Cycle o) e in
+      rule-sound setup framed (endedAt setup ch o) (cycle-settled setup framed ch shaped s o (p .0) (rw (p .1)) (p .2))
 
-  grant-sound : (w : ℕ) → actPlan setup ch ≡ Grant w → Sound setup (advancedBy setup ch (Grant w) .channel)
+  grant-sound : (w : ℕ) → actPlan setup ch ≡ plan.Grant w → Sound setup (advancedBy setup ch (plan.Grant w) .channel)
   unfolding grantTurn
   grant-sound w e =
-      let p = says setup ch (Grant w) e in
+      let p = says setup ch (plan.Grant w) e in
       rule-sound setup framed (granted ch w) (rw (p .1) (grant-settled setup framed ch s (p .0) (p .2)))
 
-  leave-sound : (o : ℕ) → Sound setup (advancedBy setup ch (Leave o) .channel)
+  leave-sound : (o : ℕ) → Sound setup (advancedBy setup ch (plan.Leave o) .channel)
   unfolding leaveTurn
   leave-sound o = rule-sound setup framed (freed ch (ch .inactive)) (leave-settled setup framed ch s)
 
   pub step-sound : (plan : Plan) → actPlan setup ch ≡ plan → Sound setup (advancedBy setup ch plan .channel)
-  step-sound Idle e = s
-  step-sound (Refused why) e = s
-  step-sound (Grant w) e = grant-sound w e
-  step-sound (Leave o) e = leave-sound o
-  step-sound (Cycle o) e = cycle-sound o e
+  step-sound plan.Idle e = s
+  step-sound (plan.Refused why) e = s
+  step-sound (plan.Grant w) e = grant-sound w e
+  step-sound (plan.Leave o) e = leave-sound o
+  step-sound (plan.Cycle o) e = cycle-sound o e
 
 -- and keeps the arrays' shape
 pub freed-shaped : (ch : Channel) (marks : List Bool) → length marks ≡ 16 → Shaped ch → Shaped (freed ch marks)
 unfolding freed
-freed-shaped ch marks n k =
-    record { inactive = n; direction = k .direction; space = k .space; address = k .address; left = k .left; offset = k .offset }
+freed-shaped ch marks n k = changed-shaped ch Arbitrating Never (ch .clock) marks n k
 
 granted-shaped : (ch : Channel) (w : ℕ) → Shaped ch → Shaped (granted ch w)
 unfolding granted
-granted-shaped ch w k =
-    record { inactive = k .inactive; direction = k .direction; space = k .space; address = k .address; left = k .left; offset = k .offset }
+granted-shaped ch w k = changed-shaped ch (Granted w) Never (ch .clock + arbitrationTime) (ch .inactive) (k .inactive) k
 
 pub ended-shaped : (ending : Ending) (ch : Channel) (o : ℕ) → Shaped ch → Shaped (endedBy ending ch o)
 ended-shaped Kept ch o k = k
 ended-shaped (Released h) ch o k = freed-shaped ch (ch .inactive) (k .inactive) k
 ended-shaped (Marked h) ch o k = freed-shaped ch (markedAt (ch .inactive) o) (length-set (ch .inactive) o true ∙ k .inactive) k
 
-pub moved-shaped : (path : Path) (ch : Channel) (o : ℕ) (q : Request) → Shaped ch → Shaped (movedOn path ch o q)
+pub moved-shaped : (ch : Channel) (o : ℕ) (c : Cycle) → Shaped ch → Shaped (movedOn ch o c)
 unfolding movedOn
-moved-shaped path ch o q k =
-    with-shaped (clocked ch (ch .clock + path .time)) o (slotAfter (restAfter path q)) (clocked-shaped ch (ch .clock + path .time) k)
+moved-shaped ch o c k = with-shaped (clocked ch (ch .clock + c .time)) o (c .rest) (clocked-shaped ch (ch .clock + c .time) k)
 
 pub step-shaped : (setup : Setup) (ch : Channel) (plan : Plan) → Shaped ch → Shaped (advancedBy setup ch plan .channel)
 unfolding grantTurn leaveTurn cycleTurn
-step-shaped setup ch Idle k = k
-step-shaped setup ch (Refused why) k = k
-step-shaped setup ch (Grant w) k = rule-shaped (granted ch w) (granted-shaped ch w k)
-step-shaped setup ch (Leave o) k = rule-shaped (freed ch (ch .inactive)) (freed-shaped ch (ch .inactive) (k .inactive) k)
-step-shaped setup ch (Cycle o) k =
-    let ending = endingOf (pathAt setup ch o) (ch .asked) (ch .clock + pathAt setup ch o .time) (restAt setup ch o) in
-    rule-shaped (endedBy ending (movedAt setup ch o) o)
-    (ended-shaped ending (movedAt setup ch o) o (moved-shaped (pathAt setup ch o) ch o (requestOf ch o) k))
+step-shaped setup ch plan.Idle k = k
+step-shaped setup ch (plan.Refused why) k = k
+step-shaped setup ch (plan.Grant w) k = rule-shaped (granted ch w) (granted-shaped ch w k)
+step-shaped setup ch (plan.Leave o) k = rule-shaped (freed ch (ch .inactive)) (freed-shaped ch (ch .inactive) (k .inactive) k)
+step-shaped setup ch (plan.Cycle o) k =
+    rule-shaped (endedAt setup ch o)
+    (ended-shaped (endingAt (pathAt setup ch o) ch (nextCycle setup ch o)) (movedAt setup ch o) o
+    (moved-shaped ch o (nextCycle setup ch o) k))

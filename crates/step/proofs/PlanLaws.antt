@@ -1,5 +1,5 @@
 -- What each plan says of the channel, and that a planned cycle has all the room that it needs.
-use Prim.Native.Nat.{ℕ, _+_, _-_, _≤_}
+use Prim.Native.Nat.{ℕ, _+_, _≤_}
 use mathlib.Core.Path.{_≡_, refl, ap}
 use mathlib.Core.Bool.{true, false, _&&_}
 use mathlib.Core.List.{List}
@@ -15,7 +15,7 @@ use Rattle.basics.proofs.Tests.{by-test, and-left, and-right}
 use Rattle.frame.specs.Frame.{isFramed}
 use Rattle.frame.specs.Find.{slaveStoreLength}
 use Rattle.frame.specs.declared.Setup.{Setup}
-use Rattle.frame.proofs.FrameLaws.{framed-slaves, framed-master, limit-most}
+use Rattle.frame.proofs.FrameLaws.{framed-slaves, framed-master, level-facts-of, limit-most}
 use Rattle.frame.proofs.SlaveLaws.{store-most}
 use Rattle.channel.specs.declared.Phase.{Phase}
 use Rattle.channel.specs.declared.Phase.the-variants.{Arbitrating, Granted}
@@ -23,18 +23,19 @@ use Rattle.channel.specs.declared.Channel.{Channel}
 use Rattle.channel.specs.declared.Request.{Request}
 use Rattle.channel.specs.Channel.{requestOf}
 use Rattle.channel.specs.Line.{line, winner}
-use Rattle.sound.specs.Rows.{slaveOf}
+use Rattle.channel.specs.Slave.{slaveOf}
 use Rattle.sound.specs.Sound.{clockLimit, isSound}
 use Rattle.sound.proofs.SoundFacts.{sound-is}
 use Rattle.sound.proofs.RequestFacts.{fits-is, slave-facts-of}
 use Rattle.act.specs.declared.Path.{Path}
-use Rattle.act.specs.Cycle.{pathOf, cycleBytes}
+use Rattle.act.specs.Cycle.{pathOf}
 use Rattle.act.specs.Turn.{arbitrationTime}
 use Rattle.step.specs.declared.Plan.{Plan}
 use Rattle.step.specs.declared.Plan.the-variants.{Idle, Refused, Grant, Leave, Cycle}
 use Rattle.step.specs.Plan.{timed, ownerPlan, phasePlan, actPlan, readyVerdict, planBy, planOf}
 use Rattle.step.specs.declared.StepAnswer.the-variants.{Refused as NotDone}
-use Rattle.step.specs.Step.{Ready, Roomy, advancedBy, placeFor, movedSlave, movedMaster, slaveBy, masterBy}
+use Rattle.step.specs.declared.Carry.{Carry}
+use Rattle.step.specs.Step.{Ready, Roomy, Room, advancedBy, carryOf, movedSlave, movedMaster, slaveBy, masterBy}
 
 -- what is known where a plan was made
 abbrev Says : Setup → Channel → Phase → Plan → Type 0
@@ -72,22 +73,29 @@ unfolding actPlan
 says setup ch plan e = rw e at (phase-says setup ch (ch .phase))
 
 -- the owner's request on a sound channel over stores of the right lengths has room in its row and in both stores
-pub roomy : (setup : Setup) (ch : Channel) (o slave master : ℕ) → Ready setup ch slave master → ch .phase ≡ Granted o → eqb (getD (ch .left) o 0) 0 ≡ false
+pub roomy : (setup : Setup) (ch : Channel) (o slave master : ℕ) → Ready setup ch slave master → ch .phase ≡ Granted o
+    → eqb (getD (ch .left) o 0) 0 ≡ false
     → Roomy (pathOf setup o (requestOf ch o)) (requestOf ch o) slave master
 unfolding pathOf
 roomy setup ch o slave master r phase some =
     let s = sound-is setup ch (r .sound) .settled in
     let g = s .owner o phase in
     let q = requestOf ch o in
-    let f = fits-is setup q (s .request o (omega (arith, g .small)) (rw some) .1) in
+    let f = fits-is setup o q (s .request o (omega (arith, g .small)) (rw some) .1) in
     let found = slave-facts-of setup (r .framed) q f in
     let m = framed-master setup (r .framed) in
     let most = store-most (setup .slaves) (framed-slaves setup (r .framed)) in
     record {
-      end = omega (arith, found .range .ends, found .facts .end, limit-most (slaveOf (setup .slaves) q .space));
-      offset = omega (arith, f .master, m .1);
-      begins = found .range .begins;
-      start = omega (arith, found .inside, most);
+      way =
+          record {
+            width = level-facts-of setup (r .framed) o (g .present) .0 .width;
+            port = found .facts .port;
+            some = f .some;
+            end = omega (arith, found .range .ends, found .facts .end, limit-most (slaveOf (setup .slaves) q .space));
+            offset = omega (arith, f .master, m .1);
+            begins = found .range .begins;
+            start = omega (arith, found .inside, most);
+          };
       slave = omega (arith, found .inside, found .range .begins, found .range .ends, r .slave);
       master = omega (arith, f .master, r .master);
     }
@@ -101,7 +109,8 @@ planned-roomy setup ch o slave master r e = let p = says setup ch (Cycle o) e in
 not-ready : {r : Refusal} → NotReady r ≡ Accepted → ⊥
 not-ready e = let z : _≡_ {A = ℕ} 0 1 = cc in omega arith
 
-pub ready-is : (setup : Setup) (ch : Channel) (slave master : ℕ) → readyVerdict setup ch slave master ≡ Accepted → Ready setup ch slave master
+pub ready-is : (setup : Setup) (ch : Channel) (slave master : ℕ) → readyVerdict setup ch slave master ≡ Accepted
+    → Ready setup ch slave master
 unfolding readyVerdict
 ready-is setup ch slave master e =
     let nine = by-test (isFramed setup && isSound setup ch) (λ t. t) (λ f. absurd (not-ready (rw f at e))) in
@@ -115,16 +124,19 @@ ready-is setup ch slave master e =
       master = eqb-true master _ (and-right (eqb slave (slaveStoreLength (setup .slaves))) _ eight);
     }
 
-pub ready-by : (setup : Setup) (ch : Channel) (slave master : ℕ) → Ready setup ch slave master → readyVerdict setup ch slave master ≡ Accepted
+pub ready-by : (setup : Setup) (ch : Channel) (slave master : ℕ) → Ready setup ch slave master → readyVerdict setup ch slave master
+    ≡ Accepted
 unfolding readyVerdict
 ready-by setup ch slave master r = rw (r .framed, r .sound, eq-eqb slave _ (r .slave), eq-eqb master _ (r .master))
 
-pub plan-ready : (setup : Setup) (ch : Channel) (slave master : ℕ) → Ready setup ch slave master → planOf setup ch slave master ≡ actPlan setup ch
+pub plan-ready : (setup : Setup) (ch : Channel) (slave master : ℕ) → Ready setup ch slave master → planOf setup ch slave master
+    ≡ actPlan setup ch
 unfolding planOf
 plan-ready setup ch slave master r = ap (planBy setup ch) (ready-by setup ch slave master r)
 
 -- a refused act leaves the stores
-pub refused-still : (setup : Setup) (ch : Channel) (p : Plan) (why : Refusal) (slave master : List ℕ) → advancedBy setup ch p .answer ≡ NotDone why
+pub refused-still : (setup : Setup) (ch : Channel) (p : Plan) (why : Refusal) (slave master : List ℕ) → advancedBy setup ch p .answer
+    ≡ NotDone why
     → (slaveBy setup ch p slave master ≡ slave) × (masterBy setup ch p slave master ≡ master)
 refused-still setup ch Idle why slave master e = let z : _≡_ {A = ℕ} 0 1 = cc in absurd (omega arith)
 refused-still setup ch (Refused r) why slave master e = (refl, refl)
@@ -132,11 +144,22 @@ refused-still setup ch (Grant w) why slave master e = let z : _≡_ {A = ℕ} 0 
 refused-still setup ch (Leave o) why slave master e = let z : _≡_ {A = ℕ} 0 1 = cc in absurd (omega arith)
 refused-still setup ch (Cycle o) why slave master e = let z : _≡_ {A = ℕ} 0 1 = cc in absurd (omega arith)
 
--- the lengths of the stores after a cycle
+-- a cycle's bytes are some of those that are left, so there is room for them too
+pub carry-room : (path : Path) (q : Request) (s m : ℕ) → Roomy path q s m → Room (carryOf path q) s m
+unfolding carryOf
+carry-room path q s m a = record { slave = omega (arith, a .slave); master = omega (arith, a .master) }
+
+-- the lengths of the stores after bytes were carried
+pub carried-lengths : (c : Carry) (slave master : List ℕ) → Room c (length slave) (length master)
+    → (length (movedSlave c slave master) ≡ length slave) × (length (movedMaster c slave master) ≡ length master)
+unfolding movedSlave movedMaster
+carried-lengths c slave master a =
+    by-test (eqb (c .direction) 0)
+    (λ t. rw t (refl, length-paste master (c .offset) _ (c .bytes) (a .master) (rw length-drop (omega (arith, a .slave)))))
+    (λ f. rw f (length-paste slave (c .place) _ (c .bytes) (a .slave) (rw length-drop (omega (arith, a .master))), refl))
+
+-- and so after a cycle
 pub moved-lengths : (path : Path) (q : Request) (slave master : List ℕ) → Roomy path q (length slave) (length master)
-    → (length (movedSlave path q slave master) ≡ length slave) × (length (movedMaster path q slave master) ≡ length master)
-unfolding movedSlave movedMaster placeFor
-moved-lengths path q slave master a =
-    by-test (eqb (q .direction) 0)
-    (λ t. rw t (refl, length-paste master (q .offset) _ (cycleBytes path q) (omega (arith, a .master)) (rw length-drop (omega (arith, a .slave)))))
-    (λ f. rw f (length-paste slave (path .start + (q .address - path .base)) _ (cycleBytes path q) (omega (arith, a .slave)) (rw length-drop (omega (arith, a .master))), refl))
+    → (length (movedSlave (carryOf path q) slave master) ≡ length slave) ×
+    (length (movedMaster (carryOf path q) slave master) ≡ length master)
+moved-lengths path q slave master a = carried-lengths (carryOf path q) slave master (carry-room path q (length slave) (length master) a)

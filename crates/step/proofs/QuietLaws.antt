@@ -15,16 +15,19 @@ use Rattle.channel.specs.declared.Channel.{Channel}
 use Rattle.channel.specs.Channel.{ownerOf, hasRequest, requestOf, withRequest, Shaped}
 use Rattle.channel.specs.Line.{isInactive, lineActive, line, lineRule}
 use Rattle.channel.proofs.LineLaws.{line-some, line-by}
-use Rattle.sound.specs.Rows.{isFair, slaveOf}
+use Rattle.frame.specs.Rows.{isFair}
+use Rattle.channel.specs.Slave.{slaveOf}
 use Rattle.sound.specs.Sound.{clockLimit}
 use Rattle.sound.proofs.SoundFacts.{Sound}
 use Rattle.sound.proofs.RuleLaws.{rule-same}
-use Rattle.act.specs.Cycle.{releasedBy, endingOf, isLeaving, clocked, freed, markedAt, endedBy, movedOn}
+use Rattle.act.specs.Cycle.{releasedBy, endingOf, endingAt, clocked, freed, markedAt, endedBy, movedOn}
 use Rattle.step.proofs.KeepLaws.{
   pathAt,
-  restAt,
+  nextCycle,
+  clockAt,
   movedAt,
-  clockAfter,
+  leavesAt,
+  endedAt,
   kept-open,
   line-same,
   kept-settled,
@@ -49,8 +52,8 @@ module _ (ch : Channel) (o : ℕ) (phase : ch .phase ≡ Granted o) (active : li
 module _ (setup : Setup) (framed : isFramed setup ≡ true) (ch : Channel) (shaped : Shaped ch) (s : Sound setup ch) (o : ℕ)
     (phase : ch .phase ≡ Granted o) (asks : hasRequest (ch .left) o ≡ true)
     (room : ch .clock + slaveOf (setup .slaves) (requestOf ch o) .time ≤ clockLimit) where
-  kept-sound : isLeaving (pathAt setup ch o) (ch .asked) (ch .clock + pathAt setup ch o .time) (restAt setup ch o) ≡ false → Sound setup (movedAt setup ch o)
-  unfolding movedOn clocked withRequest clockAfter
+  kept-sound : leavesAt setup ch o ≡ false → Sound setup (movedAt setup ch o)
+  unfolding movedOn clocked withRequest
   kept-sound e =
       let same = line-same setup framed ch shaped s o phase asks room in
       record {
@@ -67,11 +70,12 @@ module _ (setup : Setup) (framed : isFramed setup ≡ true) (ch : Channel) (shap
       let was = s .marked l k (sym (ap (λ (x : List Bool). isInactive x l) (none refl)) ∙ m) in
       absurd (false≢true (sym (s .quiet o phase a) ∙ was))
   freed-marked marks (At t) a same none l k m =
-      still-driven ch o phase (s .settled .asked o t phase a .line) (movedAt setup ch o) (kept-open setup framed ch shaped s o phase asks room) marks same
+      still-driven ch o phase (s .settled .asked o t phase a .line) (movedAt setup ch o)
+      (kept-open setup framed ch shaped s o phase asks room) marks same
 
   released-sound : (a : Asked) → ch .asked ≡ a
-      → Sound setup (endedBy (releasedBy (pathAt setup ch o .options) a (ch .clock + pathAt setup ch o .time)) (movedAt setup ch o) o)
-  unfolding freed movedOn clocked withRequest clockAfter
+      → Sound setup (endedBy (releasedBy (pathAt setup ch o .options) a (clockAt setup ch o)) (movedAt setup ch o) o)
+  unfolding freed movedOn clocked withRequest
   released-sound Never a =
       record {
         settled = released-settled setup framed ch shaped s o phase asks room Never;
@@ -99,26 +103,20 @@ module _ (setup : Setup) (framed : isFramed setup ≡ true) (ch : Channel) (shap
       }))
 
   -- however the cycle ends
-  ended-sound : Sound setup
-      (endedBy (endingOf (pathAt setup ch o) (ch .asked) (ch .clock + pathAt setup ch o .time) (restAt setup ch o)) (movedAt setup ch o) o)
+  ended-sound : Sound setup (endedAt setup ch o)
   unfolding endingOf
-  ended-sound =
-      by-test (isLeaving (pathAt setup ch o) (ch .asked) (ch .clock + pathAt setup ch o .time) (restAt setup ch o))
-      (λ t. rw t (released-sound (ch .asked) refl))
-      (λ f. rw f (kept-sound f))
+  ended-sound = by-test (leavesAt setup ch o) (λ t. rw t (released-sound (ch .asked) refl)) (λ f. rw f (kept-sound f))
 
-  pub cycle-quiet : lineRule
-      (endedBy (endingOf (pathAt setup ch o) (ch .asked) (ch .clock + pathAt setup ch o .time) (restAt setup ch o)) (movedAt setup ch o) o)
-      ≡ endedBy (endingOf (pathAt setup ch o) (ch .asked) (ch .clock + pathAt setup ch o .time) (restAt setup ch o)) (movedAt setup ch o) o
+  pub cycle-quiet : lineRule (endedAt setup ch o) ≡ endedAt setup ch o
   cycle-quiet =
-      rule-same setup
-      (endedBy (endingOf (pathAt setup ch o) (ch .asked) (ch .clock + pathAt setup ch o .time) (restAt setup ch o)) (movedAt setup ch o) o)
-      (ended-shaped (endingOf (pathAt setup ch o) (ch .asked) (ch .clock + pathAt setup ch o .time) (restAt setup ch o)) (movedAt setup ch o) o
-      (moved-shaped (pathAt setup ch o) ch o (requestOf ch o) shaped))
+      rule-same setup (endedAt setup ch o)
+      (ended-shaped (endingAt (pathAt setup ch o) ch (nextCycle setup ch o)) (movedAt setup ch o) o
+      (moved-shaped ch o (nextCycle setup ch o) shaped))
       ended-sound
 
 -- a release without a request, which only an active line brings about
-pub leave-quiet : (setup : Setup) → isFramed setup ≡ true → (ch : Channel) → Shaped ch → Sound setup ch → (o : ℕ) → ch .phase ≡ Granted o → line ch ≡ true
+pub leave-quiet : (setup : Setup) → isFramed setup ≡ true → (ch : Channel) → Shaped ch → Sound setup ch → (o : ℕ) → ch .phase ≡ Granted o
+    → line ch ≡ true
     → lineRule (freed ch (ch .inactive)) ≡ freed ch (ch .inactive)
 unfolding freed
 leave-quiet setup framed ch shaped s o phase active =

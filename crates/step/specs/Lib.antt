@@ -1,3 +1,5 @@
-pub mod Acts
 pub mod Plan
 pub mod Step
+pub mod Run
+pub mod Machine
+pub mod Turns

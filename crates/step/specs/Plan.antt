@@ -15,7 +15,7 @@ use Rattle.channel.specs.declared.Channel.{Channel}
 use Rattle.channel.specs.declared.Request.{Request}
 use Rattle.channel.specs.Channel.{requestOf}
 use Rattle.channel.specs.Line.{line, winner}
-use Rattle.sound.specs.Rows.{slaveOf}
+use Rattle.channel.specs.Slave.{slaveOf}
 use Rattle.sound.specs.Sound.{clockLimit, isSound}
 use Rattle.act.specs.Turn.{arbitrationTime}
 use Rattle.step.specs.declared.Plan.{Plan}

@@ -1,12 +1,13 @@
 -- Document 01, "One step": the step itself, on the channel and on both stores, and its entry.
-use Prim.Native.Nat.{ℕ, _+_, _-_, _≤_}
+use Prim.Native.Nat.{ℕ, _+_, _-_, _≤_, _<_}
 use mathlib.Core.Path.{_≡_}
-use mathlib.Core.Bool.{true, cond}
+use mathlib.Core.Bool.{Bool, true, cond, _&&_}
 use mathlib.Core.List.{List, [], _∷_}
 use lib.ListN.{length, drop}
 use lib.Seq.{paste}
-use lib.Dec.{eqb}
+use lib.Dec.{eqb, leb}
 use Rattle.refusal.specs.Refusal.{numberOf}
+use Rattle.cycle.specs.Cycle.{isWidth, isPort}
 use Rattle.frame.specs.Frame.{isFramed}
 use Rattle.frame.specs.Find.{slaveStoreLength}
 use Rattle.frame.specs.declared.Setup.{Setup}
@@ -20,9 +21,11 @@ use Rattle.act.specs.declared.Path.{Path}
 use Rattle.step.specs.declared.Plan.{Plan}
 use Rattle.step.specs.declared.Plan.the-variants.{Idle, Refused, Grant, Leave, Cycle}
 use Rattle.step.specs.declared.Stepped.{Stepped}
+use Rattle.step.specs.declared.Carry.{Carry}
+use Rattle.step.specs.declared.Decision.{Decision}
 use Rattle.step.specs.declared.StepAnswer.{StepAnswer}
 use Rattle.step.specs.declared.StepAnswer.the-variants.{Done, Refused as NotDone}
-use Rattle.act.specs.Cycle.{pathOf, cycleBytes, Turned, cycleTurn}
+use Rattle.act.specs.Cycle.{pathOf, cycleBytes, cycleOf, Turned, cycleTurn}
 use Rattle.act.specs.Entry.{entryNumbers}
 use Rattle.act.specs.Turn.{grantTurn, leaveTurn, idleTurn}
 use Rattle.step.specs.Plan.{planOf}
@@ -48,13 +51,17 @@ pub record Advanced : Type 0 where
 abbrev pub doneBy : Turned → Advanced
 doneBy turned = record { channel = turned .channel; answer = Done (turned .entry) }
 
+-- one cycle of an owner's request
+abbrev pub cycleAt : Setup → Channel → ℕ → Request → Turned
+cycleAt setup ch owner q = cycleTurn (pathOf setup owner q) ch owner (q .direction) (cycleOf (pathOf setup owner q) q)
+
 -- "A refused call gives back the channel it got"; a refused step "has no entry"
 abbrev pub advancedBy : Setup → Channel → Plan → Advanced
 advancedBy setup ch (Refused why) = record { channel = ch; answer = NotDone why }
 advancedBy setup ch Idle = doneBy (idleTurn ch)
 advancedBy setup ch (Grant winner) = doneBy (grantTurn ch winner)
 advancedBy setup ch (Leave owner) = doneBy (leaveTurn ch owner)
-advancedBy setup ch (Cycle owner) = doneBy (cycleTurn (pathOf setup owner (requestOf ch owner)) ch owner (requestOf ch owner))
+advancedBy setup ch (Cycle owner) = doneBy (cycleAt setup ch owner (requestOf ch owner))
 
 -- "Each step .. adds to the tally by that entry"; "A refused step leaves it"
 abbrev pub tallyBy : Tally → StepAnswer → Tally
@@ -64,20 +71,26 @@ tallyBy t (NotDone why) = t
 abbrev pub tallied : Tally → Advanced → Stepped
 tallied t a = record { channel = a .channel; tally = tallyBy t (a .answer); answer = a .answer }
 
--- one step, over stores of these lengths
-unfoldable pub stepOf : Setup → Channel → Tally → ℕ → ℕ → Stepped
-stepOf setup ch t slave master = tallied t (advancedBy setup ch (planOf setup ch slave master))
+-- one step, over these stores
+unfoldable pub stepOf : Setup → Channel → Tally → List ℕ → List ℕ → Stepped
+stepOf setup ch t slave master = tallied t (advancedBy setup ch (planOf setup ch (length slave) (length master)))
 
--- "The i-th byte goes with address + i and offset + i.": where a request's next byte lies in the slave store
-unfoldable pub placeFor : Path → Request → ℕ
-placeFor path q = path .start + (q .address - path .base)
+-- "The i-th byte goes with address + i and offset + i.": what the next cycle of a request moves, and where its bytes lie in both stores
+unfoldable pub carryOf : Path → Request → Carry
+carryOf path q =
+    record {
+      direction = q .direction;
+      place = path .start + (q .address - path .base);
+      offset = q .offset;
+      bytes = cycleBytes path q;
+    }
 
--- "direction (0 read: slave to master; 1 write)": the stores after one cycle
-unfoldable pub movedSlave : Path → Request → List ℕ → List ℕ → List ℕ
-movedSlave path q slave master = cond (eqb (q .direction) 0) slave (paste slave (placeFor path q) (drop (q .offset) master) (cycleBytes path q))
+-- "direction (0 read: slave to master; 1 write)": the stores after it
+unfoldable pub movedSlave : Carry → List ℕ → List ℕ → List ℕ
+movedSlave c slave master = cond (eqb (c .direction) 0) slave (paste slave (c .place) (drop (c .offset) master) (c .bytes))
 
-unfoldable pub movedMaster : Path → Request → List ℕ → List ℕ → List ℕ
-movedMaster path q slave master = cond (eqb (q .direction) 0) (paste master (q .offset) (drop (placeFor path q) slave) (cycleBytes path q)) master
+unfoldable pub movedMaster : Carry → List ℕ → List ℕ → List ℕ
+movedMaster c slave master = cond (eqb (c .direction) 0) (paste master (c .offset) (drop (c .place) slave) (c .bytes)) master
 
 -- only a cycle moves bytes
 abbrev pub slaveBy : Setup → Channel → Plan → List ℕ → List ℕ → List ℕ
@@ -85,20 +98,50 @@ slaveBy setup ch Idle slave master = slave
 slaveBy setup ch (Refused why) slave master = slave
 slaveBy setup ch (Grant w) slave master = slave
 slaveBy setup ch (Leave o) slave master = slave
-slaveBy setup ch (Cycle o) slave master = movedSlave (pathOf setup o (requestOf ch o)) (requestOf ch o) slave master
+slaveBy setup ch (Cycle o) slave master = movedSlave (carryOf (pathOf setup o (requestOf ch o)) (requestOf ch o)) slave master
 
 abbrev pub masterBy : Setup → Channel → Plan → List ℕ → List ℕ → List ℕ
 masterBy setup ch Idle slave master = master
 masterBy setup ch (Refused why) slave master = master
 masterBy setup ch (Grant w) slave master = master
 masterBy setup ch (Leave o) slave master = master
-masterBy setup ch (Cycle o) slave master = movedMaster (pathOf setup o (requestOf ch o)) (requestOf ch o) slave master
+masterBy setup ch (Cycle o) slave master = movedMaster (carryOf (pathOf setup o (requestOf ch o)) (requestOf ch o)) slave master
 
 unfoldable pub slaveAfter : Setup → Channel → List ℕ → List ℕ → List ℕ
 slaveAfter setup ch slave master = slaveBy setup ch (planOf setup ch (length slave) (length master)) slave master
 
 unfoldable pub masterAfter : Setup → Channel → List ℕ → List ℕ → List ℕ
 masterAfter setup ch slave master = masterBy setup ch (planOf setup ch (length slave) (length master)) slave master
+
+-- the same before any byte moves: what the step gives, and what is to be moved
+abbrev pub noCarry : Carry
+noCarry = record { direction = 0; place = 0; offset = 0; bytes = 0 }
+
+abbrev pub carryBy : Setup → Channel → Plan → Carry
+carryBy setup ch Idle = noCarry
+carryBy setup ch (Refused why) = noCarry
+carryBy setup ch (Grant w) = noCarry
+carryBy setup ch (Leave o) = noCarry
+carryBy setup ch (Cycle o) = carryOf (pathOf setup o (requestOf ch o)) (requestOf ch o)
+
+unfoldable pub decisionOf : Setup → Channel → Tally → List ℕ → List ℕ → Decision
+decisionOf setup ch t slave master =
+    record { stepped = stepOf setup ch t slave master; carry = carryBy setup ch (planOf setup ch (length slave) (length master)) }
+
+-- what is carried where both ranges lie inside their stores, and nothing elsewhere
+abbrev pub hasRoom : Carry → ℕ → ℕ → Bool
+hasRoom c slave master = leb (c .place + c .bytes) slave && leb (c .offset + c .bytes) master
+
+-- the ranges themselves
+pub record Room (c : Carry) (s m : ℕ) : Type 0 where
+  pub slave : c .place + c .bytes ≤ s
+  pub master : c .offset + c .bytes ≤ m
+
+unfoldable pub carriedSlave : Carry → List ℕ → List ℕ → List ℕ
+carriedSlave c slave master = cond (hasRoom c (length slave) (length master)) (movedSlave c slave master) slave
+
+unfoldable pub carriedMaster : Carry → List ℕ → List ℕ → List ℕ
+carriedMaster c slave master = cond (hasRoom c (length slave) (length master)) (movedMaster c slave master) master
 
 -- what a step that is not refused by 9 or 8 may rely on: the set-up keeps the frame, the channel is sound, the stores have the set-up's lengths
 pub record Ready (setup : Setup) (ch : Channel) (s m : ℕ) : Type 0 where
@@ -107,11 +150,18 @@ pub record Ready (setup : Setup) (ch : Channel) (s m : ℕ) : Type 0 where
   pub slave : s ≡ slaveStoreLength (setup .slaves)
   pub master : m ≡ setup .master
 
--- what the cycles of a request rely on: room in the address space and in both stores for all that is left of it
-pub record Roomy (path : Path) (q : Request) (s m : ℕ) : Type 0 where
+-- what a cycle relies on: W and P of a set-up's rows, something left, and room for all of it in the address space and behind the row's start
+pub record Way (path : Path) (q : Request) : Type 0 where
+  pub width : isWidth (path .width) ≡ true
+  pub port : isPort (path .port) ≡ true
+  pub some : 0 < q .left
   pub end : q .address + q .left ≤ 16777216
   pub offset : q .offset + q .left ≤ 65536
   pub begins : path .base ≤ q .address
   pub start : path .start ≤ 65536
+
+-- and in both stores
+pub record Roomy (path : Path) (q : Request) (s m : ℕ) : Type 0 where
+  pub way : Way path q
   pub slave : path .start + (q .address - path .base) + q .left ≤ s
   pub master : q .offset + q .left ≤ m

@@ -1,32 +1,38 @@
-// One step of the channel (document 01, "One step"): the plan, which decides without a look at the bytes, and the step,
-// which carries it out on the channel and on both stores and gives the log entry. The step works in place, on the channel's
-// arrays as locals: a channel passed on by value is copied each time.
-use act::CycleEntry;
-use act::Ending;
+// One step of the channel and a run of them (document 01, "One step"): the plan, which says without a look at the bytes what a
+// step does; the decision, which is the whole step but for its bytes; the step, which is the decision and its carrying; the
+// run. All work on the channel's arrays as locals, in place: a channel passed on by value is copied each time.
+// `acts` has what a step does, `cycles` one cycle of an owner, `turns` how a run goes on.
+mod acts;
+mod cycles;
+mod turns;
+
 use act::Entry;
-use act::Hold;
 use act::Path;
-use channel::Asked;
+use acts::Standing;
+use acts::act_on;
+use acts::channel_of;
+use acts::place_at;
+use acts::put_slot;
+use acts::slot_at;
 use channel::Channel;
 use channel::Phase;
 use channel::Request;
+use cycles::carry;
 use frame::Setup;
 use frame::Store;
 use refusal::Refusal;
 use refusal::Verdict;
 use tally::Tally;
+use turns::run_steps;
 ghost use mathlib.Core.Path.{_≡_};
-ghost use mathlib.Core.Bool.{false};
-ghost use Prim.Native.Nat.{_+_, _≤_, _<_};
+ghost use Prim.Native.Nat.{_<_};
 ghost use lib.ListN.{length};
+ghost use Rattle.frame.specs.Find.{slaveStoreLength};
 ghost use Rattle.channel.specs.Channel.{Shaped};
-ghost use Rattle.channel.specs.Line.{isInactive, lineActive};
-ghost use Rattle.sound.specs.Tables.{requestAt};
-ghost use Rattle.act.specs.Cycle.{cycleBytes, restAfter};
 ghost use Rattle.step.specs.Plan.{ownerPlan, actPlan, readyVerdict, planOf};
-ghost use Rattle.step.specs.Step.{Ready, Roomy, stepOf, movedSlave, movedMaster, slaveAfter, masterAfter};
-ghost use Rattle.step.specs.Acts.{marksLeft, fullActed, grantActed, grantMarks, restActed, cycleActed};
-ghost use Rattle.step.specs.Acts.{channelOf, steppedOf, madeOf, cycleMade, stepMade};
+ghost use Rattle.step.specs.Step.{Ready, stepOf, slaveAfter, masterAfter, decisionOf, hasRoom, carriedSlave, carriedMaster};
+ghost use Rattle.step.specs.Run.{world, runBy, runOf};
+ghost use Rattle.step.specs.Machine.{pathFor, decisionBy, refusedDecision};
 
 // What a step is going to do.
 pub enum Plan {
@@ -42,28 +48,34 @@ pub enum StepAnswer {
     Refused(Refusal),
 }
 
-// What a step changes beside the channel's arrays and the stores.
-struct Standing {
-    phase: Phase,
-    asked: Asked,
-    clock: u32,
-    tally: Tally,
-}
-
-// The same after a step, and its answer.
-struct Acted {
-    phase: Phase,
-    asked: Asked,
-    clock: u32,
-    tally: Tally,
-    answer: StepAnswer,
-}
-
 // The channel and the tally after a step, and its entry or why it was refused.
 pub struct Stepped {
     pub channel: Channel,
     pub tally: Tally,
     pub answer: StepAnswer,
+}
+
+// What a step moves: so many bytes between a place in the slave store and an offset in the master store, to the master where
+// the direction is 0.
+pub struct Carry {
+    pub direction: u32,
+    pub place: usize,
+    pub offset: usize,
+    pub bytes: usize,
+}
+
+// A step before its bytes are moved.
+pub struct Decision {
+    pub stepped: Stepped,
+    pub carry: Carry,
+}
+
+// The channel and the tally after a run, the steps done, and why it was refused or stopped, if it was.
+pub struct Ran {
+    pub channel: Channel,
+    pub tally: Tally,
+    pub steps: u32,
+    pub verdict: Verdict,
 }
 
 // The plan while a level owns the channel: a cycle of its request, or without one a release or nothing.
@@ -79,7 +91,7 @@ fn owner_plan(setup: Setup, channel: Channel, owner: u8) -> Plan
         return Plan::Idle;
     }
     let slaves = setup.slaves;
-    let slave = sound::slave_of(slaves, request);
+    let slave = channel::slave_of(slaves, request);
     if 4000000000 < channel.clock as u64 + slave.time as u64 {
         return Plan::Refused(Refusal::ClockFull);
     }
@@ -106,13 +118,10 @@ fn act_plan(setup: Setup, channel: Channel) -> Plan
 pub fn ready_verdict(setup: Setup, channel: Channel, slave: usize, master: usize) -> Verdict
     ensures { λ r. ⌜ r ≡ readyVerdict setup channel slave master ⌝ }
 {
-    let store = frame::framed_store(setup);
+    let store = sound::sound_store(setup, channel);
     match store {
         Store::Broken => Verdict::Refused(Refusal::Unsound),
         Store::Length(length) => {
-            if !sound::is_sound(setup, channel) {
-                return Verdict::Refused(Refusal::Unsound);
-            }
             if !((slave == length) & (master == setup.master as usize)) {
                 return Verdict::Refused(Refusal::StoreLength);
             }
@@ -132,317 +141,30 @@ pub fn plan_of(setup: Setup, channel: Channel, slave: usize, master: usize) -> P
     }
 }
 
-// A step that the clock has no room for.
-fn full(standing: Standing) -> Acted
-    ensures { λ r. ⌜ r ≡ fullActed standing ⌝ }
+// The path of what is left of a level's request; without one there is none.
+fn path_for(setup: Setup, at: usize, request: Request) -> Path
+    requires { ⌜ at < 16 ⌝ }
+    ensures { λ r. ⌜ r ≡ pathFor setup at request ⌝ }
 {
-    let phase = standing.phase;
-    let asked = standing.asked;
-    let tally = standing.tally;
-    Acted {
-        phase: phase,
-        asked: asked,
-        clock: standing.clock,
-        tally: tally,
-        answer: StepAnswer::Refused(Refusal::ClockFull),
-    }
-}
-
-// The line rule after a grant, in place: whether the line is then active.
-fn settle(left: &[u32; 16], inactive: &mut [bool; 16], phase: Phase) -> bool
-    ensures { λ r. ⌜ r ≡ lineActive (now (left .entry)) (now (inactive .exit)) phase ⌝ }
-    ensures { λ r. ⌜ now (inactive .exit) ≡ marksLeft (now (left .entry)) (now (inactive .entry)) phase ⌝ }
-{
-    if channel::line_active(left, inactive, phase) {
-        return true;
-    }
-    *inactive = [false; 16];
-    channel::line_active(left, inactive, phase)
-}
-
-// Arbitration: the winner is the owner, with no asked time until the line rule sets one.
-fn grant(standing: Standing, left: &[u32; 16], inactive: &mut [bool; 16]) -> Acted
-    ensures { λ r. ⌜ r ≡ grantActed standing (now (left .entry)) (now (inactive .entry)) ⌝ }
-    ensures { λ r. ⌜ now (inactive .exit) ≡ grantMarks standing (now (left .entry)) (now (inactive .entry)) ⌝ }
-{
-    let time = act::arbitration_time();
-    if 4000000000 < standing.clock as u64 + time as u64 {
-        return full(standing);
-    }
-    let winner = channel::winner_of(left, inactive);
-    let active = settle(left, inactive, Phase::Granted(winner));
-    let clock = standing.clock + time;
-    let asked = channel::asked_if(active, clock);
-    let tally = tally::add_grant(standing.tally);
-    Acted {
-        phase: Phase::Granted(winner),
-        asked: asked,
-        clock: clock,
-        tally: tally,
-        answer: StepAnswer::Done(Entry::Grant(clock, winner)),
-    }
-}
-
-// An owner without a request leaves where it is asked, and idles otherwise: the line is active exactly when there is an
-// asked time. After either, the line rule has nothing to do.
-fn rest(standing: Standing, owner: u8) -> Acted
-    ensures { λ r. ⌜ r ≡ restActed (standing .asked) standing owner ⌝ }
-{
-    let phase = standing.phase;
-    let asked = standing.asked;
-    let tally = standing.tally;
-    match asked {
-        Asked::Never => Acted {
-            phase: phase,
-            asked: Asked::Never,
-            clock: standing.clock,
-            tally: tally,
-            answer: StepAnswer::Done(Entry::Idle(standing.clock)),
-        },
-        Asked::At(t) => {
-            let hold = Hold::After(basics::less(standing.clock, t));
-            let longest = tally::add_release(tally, hold);
-            Acted {
-                phase: Phase::Arbitrating,
-                asked: Asked::Never,
-                clock: standing.clock,
-                tally: longest,
-                answer: StepAnswer::Done(Entry::Release(standing.clock, owner, hold)),
-            }
-        }
-    }
-}
-
-// How many bytes the next cycle of a request moves.
-fn bytes_of(path: Path, request: Request) -> u32
-    ensures { λ r. ⌜ r ≡ cycleBytes path request ⌝ }
-{
-    let q = cycle::narrow(path.width, path.port);
-    cycle::cycle_length(q, request.address, request.left)
-}
-
-// What is left of a request after one cycle of so many bytes.
-fn rest_after(path: Path, request: Request, bytes: u32) -> Request
-    requires { ⌜ bytes ≡ cycleBytes path request ⌝ }
-    requires { ⌜ request .address + request .left ≤ 16777216 ⌝ }
-    requires { ⌜ request .offset + request .left ≤ 65536 ⌝ }
-    ensures { λ r. ⌜ r ≡ restAfter path request ⌝ }
-{
-    Request {
-        direction: request.direction,
-        space: request.space,
-        address: request.address + bytes,
-        left: request.left - bytes,
-        offset: request.offset + bytes,
-    }
-}
-
-// The bytes of one cycle: direction 0 goes from the slave to the master, 1 the other way.
-fn carry(path: Path, request: Request, bytes: u32, slave: &mut [u8], master: &mut [u8])
-    requires { ⌜ bytes ≡ cycleBytes path request ⌝ }
-    requires { ⌜ Roomy path request (length (now slave)) (length (now master)) ⌝ }
-    ensures { λ r. ⌜ now (slave .exit) ≡ movedSlave path request (now (slave .entry)) (now (master .entry)) ⌝ }
-    ensures { λ r. ⌜ now (master .exit) ≡ movedMaster path request (now (slave .entry)) (now (master .entry)) ⌝ }
-{
-    let place = path.start + (request.address - path.base) as usize;
-    let offset = request.offset as usize;
-    if request.direction == 0 {
-        basics::move_bytes(slave, place, master, offset, bytes as usize);
-    } else {
-        basics::move_bytes(master, offset, slave, place, bytes as usize);
-    }
-}
-
-// What a cycle with this ending leaves, and its entry.
-fn cycled(
-    path: Path,
-    standing: Standing,
-    owner: u8,
-    request: Request,
-    bytes: u32,
-    ending: Ending,
-) -> Acted
-    requires { ⌜ bytes ≡ cycleBytes path request ⌝ }
-    requires { ⌜ standing .clock + path .time ≤ 4000000000 ⌝ }
-    ensures { λ r. ⌜ r ≡ cycleActed path standing owner request ending ⌝ }
-{
-    let clock = standing.clock + path.time;
-    let entry = CycleEntry {
-        clock: clock,
-        level: owner,
-        address: request.address,
-        bytes: bytes,
-        direction: request.direction,
-        master: cycle::master_lane(path.width, request.address),
-        slave: cycle::slave_lane(path.port, request.address),
-        ending: ending,
-    };
-    let tally = tally::add_cycle(standing.tally, bytes, ending);
-    let phase = standing.phase;
-    let asked = standing.asked;
-    if act::is_kept(ending) {
-        return Acted {
-            phase: phase,
-            asked: asked,
-            clock: clock,
-            tally: tally,
-            answer: StepAnswer::Done(Entry::Cycle(entry)),
+    if request.left == 0 {
+        return Path {
+            width: 0,
+            options: 0,
+            port: 0,
+            time: 0,
+            base: 0,
+            allowed: 0,
+            start: 0,
         };
     }
-    Acted {
-        phase: Phase::Arbitrating,
-        asked: Asked::Never,
-        clock: clock,
-        tally: tally,
-        answer: StepAnswer::Done(Entry::Cycle(entry)),
-    }
+    act::path_of(setup, at as u32, request)
 }
 
-// One cycle of the owner's request. After it the line rule has nothing to do.
-fn cycle_on(
-    path: Path,
-    request: Request,
-    standing: Standing,
-    owner: u8,
-    inactive: &mut [bool; 16],
-    direction: &mut [u32; 16],
-    space: &mut [u32; 16],
-    address: &mut [u32; 16],
-    left: &mut [u32; 16],
-    offset: &mut [u32; 16],
-    slave: &mut [u8],
-    master: &mut [u8],
-) -> Acted
-    requires { ⌜ owner < 16 ⌝ }
-    requires { ⌜ request ≡ requestAt (now direction) (now space) (now address) (now left) (now offset) owner ⌝ }
-    requires { ⌜ isInactive (now inactive) owner ≡ false ⌝ }
-    requires { ⌜ Roomy path request (length (now slave)) (length (now master)) ⌝ }
-    ensures { λ r. ⌜ madeOf r (now (inactive .exit)) (now (direction .exit)) (now (space .exit)) (now (address .exit)) (now (left .exit))
-        (now (offset .exit)) (now (slave .exit)) (now (master .exit))
-        ≡ cycleMade path owner (channelOf standing (now (inactive .entry)) (now (direction .entry)) (now (space .entry)) (now (address .entry))
-        (now (left .entry)) (now (offset .entry))) (standing .tally) (now (slave .entry)) (now (master .entry)) ⌝ }
-{
-    if 4000000000 < standing.clock as u64 + path.time as u64 {
-        return full(standing);
-    }
-    let bytes = bytes_of(path, request);
-    carry(path, request, bytes, slave, master);
-    let rest = rest_after(path, request, bytes);
-    let asked = standing.asked;
-    let ending = act::ending_of(path, asked, standing.clock + path.time, rest);
-    let slot = act::slot_after(rest);
-    let at = owner as usize;
-    direction[at] = slot.direction;
-    space[at] = slot.space;
-    address[at] = slot.address;
-    left[at] = slot.left;
-    offset[at] = slot.offset;
-    inactive[at] = act::is_marked(ending);
-    cycled(path, standing, owner, request, bytes, ending)
-}
-
-// The step of a sound channel over stores of the right lengths, on the lent arrays.
-fn act_on(
-    setup: Setup,
-    standing: Standing,
-    inactive: &mut [bool; 16],
-    direction: &mut [u32; 16],
-    space: &mut [u32; 16],
-    address: &mut [u32; 16],
-    left: &mut [u32; 16],
-    offset: &mut [u32; 16],
-    slave: &mut [u8],
-    master: &mut [u8],
-) -> Acted
-    requires { ⌜ Ready setup (channelOf standing (now inactive) (now direction) (now space) (now address) (now left) (now offset))
-        (length (now slave)) (length (now master)) ⌝ }
-    requires { ⌜ Shaped (channelOf standing (now inactive) (now direction) (now space) (now address) (now left) (now offset)) ⌝ }
-    ensures { λ r. ⌜ madeOf r (now (inactive .exit)) (now (direction .exit)) (now (space .exit)) (now (address .exit)) (now (left .exit))
-        (now (offset .exit)) (now (slave .exit)) (now (master .exit))
-        ≡ stepMade setup (channelOf standing (now (inactive .entry)) (now (direction .entry)) (now (space .entry)) (now (address .entry))
-        (now (left .entry)) (now (offset .entry))) (standing .tally) (now (slave .entry)) (now (master .entry)) ⌝ }
-{
-    let phase = standing.phase;
-    match phase {
-        Phase::Arbitrating => grant(standing, left, inactive),
-        Phase::Granted(owner) => {
-            let at = owner as usize;
-            let request = Request {
-                direction: direction[at],
-                space: space[at],
-                address: address[at],
-                left: left[at],
-                offset: offset[at],
-            };
-            if request.left == 0 {
-                return rest(standing, owner);
-            }
-            let path = act::path_of(setup, owner as u32, request);
-            cycle_on(
-                path,
-                request,
-                standing,
-                owner,
-                inactive,
-                direction,
-                space,
-                address,
-                left,
-                offset,
-                slave,
-                master,
-            )
-        }
-    }
-}
-
-// What a step leaves, put together again.
-fn stepped_by(
-    acted: Acted,
-    inactive: [bool; 16],
-    direction: [u32; 16],
-    space: [u32; 16],
-    address: [u32; 16],
-    left: [u32; 16],
-    offset: [u32; 16],
-) -> Stepped
-    ensures { λ r. ⌜ r ≡ steppedOf acted inactive direction space address left offset ⌝ }
-{
-    let phase = acted.phase;
-    let asked = acted.asked;
-    let tally = acted.tally;
-    let answer = acted.answer;
-    let channel = Channel {
-        phase: phase,
-        asked: asked,
-        clock: acted.clock,
-        inactive: inactive,
-        direction: direction,
-        space: space,
-        address: address,
-        left: left,
-        offset: offset,
-    };
-    Stepped {
-        channel: channel,
-        tally: tally,
-        answer: answer,
-    }
-}
-
-// The same step on a channel: its arrays are locals, lent to the act and changed in place.
-fn advance_in_place(
-    setup: Setup,
-    channel: Channel,
-    tally: Tally,
-    slave: &mut [u8],
-    master: &mut [u8],
-) -> Stepped
-    requires { ⌜ Ready setup channel (length (now slave)) (length (now master)) ⌝ }
+// The decision on a sound channel: its arrays are locals, changed in place.
+fn decide_in_place(setup: Setup, channel: Channel, tally: Tally) -> Decision
+    requires { ⌜ Ready setup channel (slaveStoreLength (setup .slaves)) (setup .master) ⌝ }
     requires { ⌜ Shaped channel ⌝ }
-    ensures { λ r. ⌜ r ≡ stepMade setup channel tally (now (slave .entry)) (now (master .entry)) .stepped ⌝ }
-    ensures { λ r. ⌜ now (slave .exit) ≡ stepMade setup channel tally (now (slave .entry)) (now (master .entry)) .slave ⌝ }
-    ensures { λ r. ⌜ now (master .exit) ≡ stepMade setup channel tally (now (slave .entry)) (now (master .entry)) .master ⌝ }
+    ensures { λ r. ⌜ r ≡ decisionBy setup channel tally (actPlan setup channel) ⌝ }
 {
     let phase = channel.phase;
     let asked = channel.asked;
@@ -458,38 +180,110 @@ fn advance_in_place(
     let mut address = channel.address;
     let mut left = channel.left;
     let mut offset = channel.offset;
-    let acted = act_on(
-        setup,
-        standing,
-        &mut inactive,
+    let at = place_at(standing);
+    let request = slot_at(&direction, &space, &address, &left, &offset, at);
+    let path = path_for(setup, at, request);
+    let decided = act_on(path, standing, request, &left, &mut inactive);
+    let slot = decided.slot;
+    put_slot(
         &mut direction,
         &mut space,
         &mut address,
         &mut left,
         &mut offset,
-        slave,
-        master,
+        at,
+        slot,
     );
-    stepped_by(acted, inactive, direction, space, address, left, offset)
+    let acted = decided.acted;
+    let next = acted.standing;
+    let figures = next.tally;
+    let answer = acted.answer;
+    let carry = decided.carry;
+    let after = channel_of(next, inactive, direction, space, address, left, offset);
+    let stepped = Stepped {
+        channel: after,
+        tally: figures,
+        answer: answer,
+    };
+    Decision {
+        stepped: stepped,
+        carry: carry,
+    }
 }
 
-// The step of a sound channel over stores of the right lengths; that an array of the channel has sixteen places is seen here.
-fn advance(
+// The decision on a sound channel over stores of the right lengths; that an array of the channel has sixteen places is seen
+// here.
+fn decide_ready(setup: Setup, channel: Channel, tally: Tally) -> Decision
+    requires { ⌜ Ready setup channel (slaveStoreLength (setup .slaves)) (setup .master) ⌝ }
+    ensures { λ r. ⌜ r ≡ decisionBy setup channel tally (actPlan setup channel) ⌝ }
+{
+    decide_in_place(setup, channel, tally)
+}
+
+// A refused step gives back the channel and the tally that it got, and moves nothing.
+fn refused(channel: Channel, tally: Tally, why: Refusal) -> Decision
+    ensures { λ r. ⌜ r ≡ refusedDecision channel tally why ⌝ }
+{
+    let stepped = Stepped {
+        channel: channel,
+        tally: tally,
+        answer: StepAnswer::Refused(why),
+    };
+    let carry = Carry {
+        direction: 0,
+        place: 0,
+        offset: 0,
+        bytes: 0,
+    };
+    Decision {
+        stepped: stepped,
+        carry: carry,
+    }
+}
+
+// A step before its bytes are moved: refusals 9, 8 and 6, in that order, or the next channel, the tally, the entry and what is
+// to be moved.
+pub fn decide<'a>(
     setup: Setup,
     channel: Channel,
     tally: Tally,
-    slave: &mut [u8],
-    master: &mut [u8],
-) -> Stepped
-    requires { ⌜ Ready setup channel (length (now slave)) (length (now master)) ⌝ }
-    ensures { λ r. ⌜ r ≡ stepMade setup channel tally (now (slave .entry)) (now (master .entry)) .stepped ⌝ }
-    ensures { λ r. ⌜ now (slave .exit) ≡ stepMade setup channel tally (now (slave .entry)) (now (master .entry)) .slave ⌝ }
-    ensures { λ r. ⌜ now (master .exit) ≡ stepMade setup channel tally (now (slave .entry)) (now (master .entry)) .master ⌝ }
+    slave: &'a [u8],
+    master: &'a [u8],
+) -> Decision
+    ensures { λ r. ⌜ r ≡ decisionOf setup channel tally (now (slave .entry)) (now (master .entry)) ⌝ }
 {
-    advance_in_place(setup, channel, tally, slave, master)
+    let verdict = ready_verdict(setup, channel, slave.len(), master.len());
+    match verdict {
+        Verdict::Refused(why) => refused(channel, tally, why),
+        Verdict::Accepted => decide_ready(setup, channel, tally),
+    }
 }
 
-// One step. A refused step gives back the channel and the tally that it got and writes to no store.
+// Both ranges of what is to be moved lie inside their stores. No sum here can wrap.
+fn has_room(what: Carry, slave: usize, master: usize) -> bool
+    ensures { λ r. ⌜ r ≡ hasRoom what slave master ⌝ }
+{
+    if slave < what.bytes {
+        return false;
+    }
+    if master < what.bytes {
+        return false;
+    }
+    (what.place <= slave - what.bytes) & (what.offset <= master - what.bytes)
+}
+
+// Moves what a step was decided to move. Where a range does not lie inside its store, nothing is moved.
+pub fn carry_bytes(what: Carry, slave: &mut [u8], master: &mut [u8])
+    ensures { λ r. ⌜ now (slave .exit) ≡ carriedSlave what (now (slave .entry)) (now (master .entry)) ⌝ }
+    ensures { λ r. ⌜ now (master .exit) ≡ carriedMaster what (now (slave .entry)) (now (master .entry)) ⌝ }
+{
+    if has_room(what, slave.len(), master.len()) {
+        carry(what, slave, master);
+    }
+}
+
+// One step: the decision, and its bytes. A refused step gives back the channel and the tally that it got and writes to no
+// store.
 pub fn step(
     setup: Setup,
     channel: Channel,
@@ -497,17 +291,64 @@ pub fn step(
     slave: &mut [u8],
     master: &mut [u8],
 ) -> Stepped
-    ensures { λ r. ⌜ r ≡ stepOf setup channel tally (length (now (slave .entry))) (length (now (master .entry))) ⌝ }
+    ensures { λ r. ⌜ r ≡ stepOf setup channel tally (now (slave .entry)) (now (master .entry)) ⌝ }
     ensures { λ r. ⌜ now (slave .exit) ≡ slaveAfter setup channel (now (slave .entry)) (now (master .entry)) ⌝ }
     ensures { λ r. ⌜ now (master .exit) ≡ masterAfter setup channel (now (slave .entry)) (now (master .entry)) ⌝ }
 {
-    let verdict = ready_verdict(setup, channel, slave.len(), master.len());
-    match verdict {
-        Verdict::Refused(why) => Stepped {
+    let decision = decide(setup, channel, tally, slave, master);
+    let what = decision.carry;
+    carry(what, slave, master);
+    let stepped = decision.stepped;
+    stepped
+}
+
+// A run over a sound channel and stores of the right lengths: refusal 7, or its steps.
+fn run_ready(
+    setup: Setup,
+    channel: Channel,
+    tally: Tally,
+    slave: &mut [u8],
+    master: &mut [u8],
+    budget: u32,
+) -> Ran
+    requires { ⌜ Ready setup channel (length (now slave)) (length (now master)) ⌝ }
+    ensures { λ r. ⌜ r ≡ runBy setup Verdict.Accepted budget (world channel tally (now (slave .entry)) (now (master .entry))) .result ⌝ }
+    ensures { λ r. ⌜ now (slave .exit) ≡ runBy setup Verdict.Accepted budget (world channel tally (now (slave .entry)) (now (master .entry))) .slave ⌝ }
+    ensures { λ r. ⌜ now (master .exit) ≡ runBy setup Verdict.Accepted budget (world channel tally (now (slave .entry))
+        (now (master .entry))) .master ⌝ }
+{
+    if 65535 < budget {
+        return Ran {
             channel: channel,
             tally: tally,
-            answer: StepAnswer::Refused(why),
+            steps: 0,
+            verdict: Verdict::Refused(Refusal::TooManySteps),
+        };
+    }
+    run_steps(setup, channel, tally, slave, master, budget)
+}
+
+// Runs up to `budget` steps: refusals 9, 8 and 7, in that order; it stops before a step that meets 6.
+pub fn run(
+    setup: Setup,
+    channel: Channel,
+    tally: Tally,
+    slave: &mut [u8],
+    master: &mut [u8],
+    budget: u32,
+) -> Ran
+    ensures { λ r. ⌜ r ≡ runOf setup budget (world channel tally (now (slave .entry)) (now (master .entry))) .result ⌝ }
+    ensures { λ r. ⌜ now (slave .exit) ≡ runOf setup budget (world channel tally (now (slave .entry)) (now (master .entry))) .slave ⌝ }
+    ensures { λ r. ⌜ now (master .exit) ≡ runOf setup budget (world channel tally (now (slave .entry)) (now (master .entry))) .master ⌝ }
+{
+    let verdict = ready_verdict(setup, channel, slave.len(), master.len());
+    match verdict {
+        Verdict::Refused(why) => Ran {
+            channel: channel,
+            tally: tally,
+            steps: 0,
+            verdict: Verdict::Refused(why),
         },
-        Verdict::Accepted => advance(setup, channel, tally, slave, master),
+        Verdict::Accepted => run_ready(setup, channel, tally, slave, master, budget),
     }
 }

@@ -1,5 +1,5 @@
 use Rattle.act.specs.Cycle.{pathOf}
-use Rattle.sound.specs.Rows.{slaveOf, startOf}
+use Rattle.channel.specs.Slave.{slaveOf, startOf}
 use borrow.Author.Needs.{needs}
 use mathlib.Core.Path.{sym, _∙_}
 use Rattle.act.proofs.path_of.Statement.{statement}

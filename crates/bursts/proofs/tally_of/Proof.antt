@@ -106,10 +106,10 @@ use Rattle.channel.proofs.Channel.Laws as Channelᵐ′
 use Rattle.tally.specs.declared.Tally.{Tally}
 use Rattle.tally.proofs.Tally as Tallyᵐ
 use Rattle.tally.proofs.Tally.Laws as Tallyᵐ′
-use Rattle.run.specs.Run.{world, runOf}
-use Rattle.run.specs.declared.Ran.{Ran}
-use Rattle.run.proofs.Ran as Ranᵐ
-use Rattle.run.proofs.Ran.Laws as Ranᵐ′
+use Rattle.step.specs.Run.{world, runOf}
+use Rattle.step.specs.declared.Ran.{Ran}
+use Rattle.step.proofs.Ran as Ranᵐ
+use Rattle.step.proofs.Ran.Laws as Ranᵐ′
 use Rattle.lent.proofs.run as callee
 use Rattle.lent.proofs.run.Symbol as callee-def
 use Rattle.lent.proofs.run.Symbol.{name as #callee}

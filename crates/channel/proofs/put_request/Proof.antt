@@ -1,4 +1,4 @@
-use Rattle.channel.proofs.LineLaws.{no-place}
+use Rattle.channel.proofs.RequestLaws.{no-place}
 use Rattle.channel.specs.Channel.{Shaped, withRequest}
 use borrow.Author.Needs.{needs}
 use mathlib.Core.Path.{refl, sym}

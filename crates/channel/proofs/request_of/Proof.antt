@@ -1,14 +1,17 @@
-use Rattle.channel.proofs.LineLaws.{no-request}
+use Rattle.channel.proofs.RequestLaws.{no-request}
 use Rattle.channel.specs.Channel.{Shaped}
 use borrow.Author.Needs.{needs}
-use mathlib.Core.Path.{sym}
+use mathlib.Core.Path.{sym, _∙_}
 use native.Mathlib.Omega.{arith}
 use Rattle.channel.proofs.request_of.Statement.{statement}
 use Rattle.channel.proofs.request_of.Tie as tie
 
+no-request-requires : tie.Need-no-request-requires
+no-request-requires c κs = search needs
+
 returns : tie.Need-returns
 returns c =
-    let a = c .before .args in
+    let a = c .before .before .args in
     let s : Shaped (a .t1) = record {
       inactive = search needs;
       direction = search needs;
@@ -17,7 +20,7 @@ returns c =
       left = search needs;
       offset = search needs;
     } in
-    sym (no-request (a .t1) (a .level) s (omega arith))
+    c .no-request .ensures ∙ sym (no-request (a .t1) (a .level) s (omega arith))
 
 mul-t5 : tie.Need-mul-t5
 mul-t5 c = search needs
@@ -56,6 +59,7 @@ pub request-of-spec : {M : Type 1} → statement M
 request-of-spec =
     tie.close
     (tie.spec
+    no-request-requires
     returns
     mul-t5
     element-copy-out-t8

@@ -1,7 +1,7 @@
--- `lent::run` meets its contract: a walk of its code, by hand. The two stores are passed on to `run::run` for good, at their own lifetimes; the
+-- `lent::run` meets its contract: a walk of its code, by hand. The two stores are passed on to `step::run` for good, at their own lifetimes; the
 -- tally's borrow is
 -- opened, the tally is copied out and passed by value, the new one is stored back whole, and the borrow is closed at it.
--- All that the proof knows of `run::run` and of `run_tally` is that they meet their contracts.
+-- All that the proof knows of `step::run` and of `run_tally` is that they meet their contracts.
 use mathlib.Core.Path.{_≡_, refl, ap, _∙_}
 use Prim.Native.Nat.{ℕ, _<_, _^_}
 use mathlib.Core.List.{[], _∷_, List}
@@ -123,14 +123,14 @@ use Rattle.channel.proofs.Channel.Laws as Channelᵐ′
 use Rattle.tally.specs.declared.Tally.{Tally}
 use Rattle.tally.proofs.Tally as Tallyᵐ
 use Rattle.tally.proofs.Tally.Laws as Tallyᵐ′
-use Rattle.run.specs.Run.{world, runOf}
-use Rattle.run.specs.declared.Ran.{Ran}
-use Rattle.run.proofs.Ran as Ranᵐ
-use Rattle.run.proofs.Ran.Laws as Ranᵐ′
-use Rattle.run.proofs.run as callee
-use Rattle.run.proofs.run.Symbol as callee-def
-use Rattle.run.proofs.run.Symbol.{name as #callee}
-use Rattle.run.proofs.run.Met as callee-thm
+use Rattle.step.specs.Run.{world, runOf}
+use Rattle.step.specs.declared.Ran.{Ran}
+use Rattle.step.proofs.Ran as Ranᵐ
+use Rattle.step.proofs.Ran.Laws as Ranᵐ′
+use Rattle.step.proofs.run as callee
+use Rattle.step.proofs.run.Symbol as callee-def
+use Rattle.step.proofs.run.Symbol.{name as #callee}
+use Rattle.step.proofs.run.Met as callee-thm
 use Rattle.lent.proofs.run_tally as taker
 use Rattle.lent.proofs.run_tally.Symbol as taker-def
 use Rattle.lent.proofs.run_tally.Symbol.{name as #taker}
@@ -449,7 +449,7 @@ run-spec 𝓤 H 𝓜 𝓖 𝓡 =
     entered 𝓤 H (tripleOf 𝓤 H (𝓖 .A) f.signature (f.spec 𝓤 H (𝓖 .A) (𝓜 .mem) (𝓡 .run)))
     (tables 𝓤 H 𝓜 𝓡 code.env .C) (tables 𝓤 H 𝓜 𝓡 code.env .Λ) #f code.function (code.unfolded 𝓤 H 𝓜 𝓡)
     (meets 𝓤 H (𝓖 .A) (givenOf 𝓤 H 𝓜 𝓖) (𝓜 .mem) (𝓡 .run) (tablesOf 𝓤 H 𝓜 (tables 𝓤 H 𝓜 𝓡 code.env))
-    (cited 𝓤 H (Callee 𝓤 H (𝓖 .A) (𝓜 .mem) (𝓡 .run)) 𝓜 𝓡 code.env #callee callee-def.routine code.calls-run·run
+    (cited 𝓤 H (Callee 𝓤 H (𝓖 .A) (𝓜 .mem) (𝓡 .run)) 𝓜 𝓡 code.env #callee callee-def.routine code.calls-step·run
     (callee-thm.met 𝓤 H 𝓜 𝓖 𝓡))
     (cited 𝓤 H (Taker 𝓤 H (𝓖 .A) (𝓜 .mem) (𝓡 .run)) 𝓜 𝓡 code.env #taker taker-def.routine code.calls-lent·run-tally
     (taker-thm.met 𝓤 H 𝓜 𝓖 𝓡)))

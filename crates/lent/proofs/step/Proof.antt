@@ -194,7 +194,7 @@ module _ {M : Type 1} (𝓤 : URA M) (H : Heap 𝓤) (A : Atoms 𝓤) (W : Given
   Post = walkOf 𝓤 H A f.ended stayed (f.clauses 𝓤 H A at-mem run) .post (((κ, (κ₁, (κ₂, tt))), (q, (q₁, (q₂, tt))), bounds, a, at), tt)
 
   abbrev d : Stepped
-  d = stepOf setup channel h (length xs) (length ys)
+  d = stepOf setup channel h xs ys
 
   -- what the callee's clause says of its result and of the stores
   abbrev Said : Stepped → List ℕ → List ℕ → Type 0

@@ -1,5 +1,5 @@
 use Prim.Native.Nat.{ℕ}
-use Rattle.logline.proofs.TextLaws.{digits-most}
+use Rattle.logline.proofs.DigitLaws.{digits-most}
 use Rattle.logline.specs.Text.{digits}
 use borrow.Author.Needs.{needs}
 use lib.ListN.{set, length-set}

@@ -1,5 +1,6 @@
 use Prim.Native.Nat.{ℕ, _+_, _-_, _*_, _≤_}
-use Rattle.logline.proofs.TextLaws.{digits-most, fields-more, fields-none, write-more}
+use Rattle.logline.proofs.DigitLaws.{digits-most}
+use Rattle.logline.proofs.TextLaws.{fields-more, fields-none, write-more}
 use Rattle.logline.specs.Text.{digits, field, fieldsFrom, past, written}
 use borrow.Author.Needs.{needs}
 use borrow.Author.Tests.{le-leb, lt-leb}
@@ -70,17 +71,18 @@ loop-less c = omega arith
 
 loop-again : tie.Need-loop-again Inv-loop μ-loop
 loop-again c =
+    let a = c .before .before .before .before .before .before .before .before .before .args in
     let l = c .before .before .before .before .before .loop in
     let k = c .before .before .put-field .ensures in
-    let numbers = c .before .before .before .before .before .before .before .before .before .args .t4 in
-    let d = digits-most 9 (getD numbers (l .i) 0) in
-    let n = l .next + length (field (getD numbers (l .i) 0)) in
-    let e : l .next + 1 + length (digits 9 (getD numbers (l .i) 0)) ≡ n = omega arith in
-    let m = ap length (fields-more numbers (l .i) (c .before .before .before .before .before .before .before .before .before .args .count) (omega arith)) in (
+    let numbers = a .t4 in
+    let n = getD numbers (l .i) 0 in
+    let rest = fieldsFrom numbers (l .i + 1) (a .count - (l .i + 1)) in
+    let e : l .next + 1 + length (digits 9 n) ≡ l .next + length (field n) = omega arith in
+    let m = ap length (fields-more numbers (l .i) (a .count) (omega arith)) in (
       omega arith,
-      omega (arith, k .0, d),
+      omega (arith, k .0, digits-most 9 n),
       rw (k .1, k .0, e) (write-more numbers (l .i) _ (l .next) (l .out) _ (omega arith) (l .inv .2)),
-      omega (arith, k .0, m, length-append (field (getD numbers (l .i) 0)) (fieldsFrom numbers (l .i + 1) (c .before .before .before .before .before .before .before .before .before .args .count - (l .i + 1))), l .inv .3),
+      omega (arith, k .0, m, length-append (field n) rest, l .inv .3),
       c .before .before .put-field .kept .0 ∙ l .inv .4,
     )
 
@@ -98,14 +100,14 @@ unfolding past written
 returns-3 c =
     let a = c .before .before .before .before .before .args in
     let l = c .before .loop in
+    let all = fieldsFrom (a .t4) 0 (a .count) in
     let e = le-leb (a .at + 96) (length (a .out .now)) (omega arith) in
-    let z = fields-none (a .t4) (l .i) (a .count) (omega arith) in
-    let s = length-append (fieldsFrom (a .t4) 0 (a .count)) (10 ∷ []) in (
-      rw e (omega (arith, s, l .inv .3, ap length z)),
+    let z = fields-none (a .t4) (l .i) (a .count) (omega arith) in (
+      rw e (omega (arith, length-append all (10 ∷ []), l .inv .3, ap length z)),
       rw e
           (sym (ap (λ (t : List ℕ). sets (l .out) (l .next) (t ++ (10 ∷ []))) z)
           ∙ l .inv .2
-          ∙ ap (λ (j : ℕ). sets (set (a .out .now) (a .at) (a .letter)) j (fieldsFrom (a .t4) 0 (a .count) ++ (10 ∷ []))) (add-one (a .at))),
+          ∙ ap (λ (j : ℕ). sets (set (a .out .now) (a .at) (a .letter)) j (all ++ (10 ∷ []))) (add-one (a .at))),
     )
 
 pub put-line-spec : {M : Type 1} → statement M

@@ -1,6 +1,6 @@
-use Prim.Native.Nat.{_-_, _≤_}
+use Prim.Native.Nat.{ℕ, _-_, _≤_}
 use Rattle.basics.specs.Scan.{allBelow}
-use Rattle.sound.specs.Tables.{isBlankAt, areBlank}
+use Rattle.sound.specs.Tables.{requestAt, isBlankOr, areBlank}
 use mathlib.Core.Path.{_≡_, refl}
 use native.Mathlib.Numerals.{add-one}
 use native.Mathlib.Omega.{arith}
@@ -9,7 +9,7 @@ use Rattle.sound.proofs.are_blank.Tie as tie
 
 abbrev Inv-loop : tie.InvT-loop
 Inv-loop direction space address left offset all₀ level₀ all level =
-    (level ≤ 16) × (all ≡ allBelow (isBlankAt direction space address left offset) level)
+    (level ≤ 16) × (all ≡ allBelow (λ (l : ℕ). isBlankOr (requestAt direction space address left offset l)) level)
 
 abbrev μ-loop : tie.MeasureT-loop
 μ-loop direction space address left offset all₀ level₀ all level = 16 - level

@@ -1,31 +1,36 @@
 use Prim.Native.Nat.{ℕ, _-_, _≤_}
+use Rattle.basics.proofs.ScanLaws.{all-more, all-miss}
 use Rattle.basics.specs.Scan.{allBelow}
 use Rattle.channel.specs.Line.{isInactive}
 use Rattle.sound.specs.Tables.{areMarked}
+use borrow.Author.Tests.{not-true, not-false}
 use lib.ListN.{getD}
-use mathlib.Core.Bool.{false, not, _&&_, _||_}
-use mathlib.Core.Path.{_≡_, refl}
-use native.Mathlib.Numerals.{add-one}
+use mathlib.Core.Bool.{true, false, not, _&&_, _||_}
+use mathlib.Core.Path.{_≡_, refl, sym}
 use native.Mathlib.Omega.{arith}
 use Rattle.sound.proofs.are_marks_sound.Statement.{statement}
 use Rattle.sound.proofs.are_marks_sound.Tie as tie
 
 abbrev Inv-loop : tie.InvT-loop
-Inv-loop fair inactive active all₀ level₀ all level =
-    (level ≤ 16) × (all ≡ allBelow (λ (l : ℕ). not (isInactive inactive l) || (getD fair l false && active)) level)
+Inv-loop fair inactive active level₀ level =
+    (level ≤ 16) × (allBelow (λ (l : ℕ). not (isInactive inactive l) || (getD fair l false && active)) level ≡ true)
 
 abbrev μ-loop : tie.MeasureT-loop
-μ-loop fair inactive active all₀ level₀ all level = 16 - level
+μ-loop fair inactive active level₀ level = 16 - level
 
 loop-holds : tie.Need-loop-holds Inv-loop μ-loop
 unfolding allBelow
 loop-holds c = (omega arith, refl)
 
-element-copy-out-all : tie.Need-element-copy-out-all Inv-loop μ-loop
-element-copy-out-all c = omega arith
+element-copy-out-if1 : tie.Need-element-copy-out-if1 Inv-loop μ-loop
+element-copy-out-if1 c = omega arith
 
-element-copy-out-all-2 : tie.Need-element-copy-out-all-2 Inv-loop μ-loop
-element-copy-out-all-2 c = omega arith
+element-copy-out-if1-2 : tie.Need-element-copy-out-if1-2 Inv-loop μ-loop
+element-copy-out-if1-2 c = omega arith
+
+returns : tie.Need-returns Inv-loop μ-loop
+unfolding areMarked
+returns c = sym (all-miss _ (c .before .before .before .before .loop .level) 16 (omega arith) (not-true _ (c .if1 .taken)))
 
 add-level : tie.Need-add-level Inv-loop μ-loop
 add-level c = omega arith
@@ -34,12 +39,13 @@ loop-less : tie.Need-loop-less Inv-loop μ-loop
 loop-less c = omega arith
 
 loop-again : tie.Need-loop-again Inv-loop μ-loop
-unfolding allBelow
-loop-again c = let l = c .before .before .before .loop in (omega arith, rw (add-one (l .level), l .inv .1))
+loop-again c =
+    let l = c .before .before .before .before .loop in
+    (omega arith, all-more _ (l .level) (l .inv .1) (not-false _ (c .if1 .left)))
 
-returns : tie.Need-returns Inv-loop μ-loop
+returns-2 : tie.Need-returns-2 Inv-loop μ-loop
 unfolding areMarked
-returns c = let e : c .before .loop .level ≡ 16 = omega arith in rw e at (c .before .loop .inv .1)
+returns-2 c = let e : c .before .loop .level ≡ 16 = omega arith in sym (rw e at (c .before .loop .inv .1))
 
 pub are-marks-sound-spec : {M : Type 1} → statement M
 are-marks-sound-spec =
@@ -48,9 +54,10 @@ are-marks-sound-spec =
     Inv-loop
     μ-loop
     loop-holds
-    element-copy-out-all
-    element-copy-out-all-2
+    element-copy-out-if1
+    element-copy-out-if1-2
+    returns
     add-level
     loop-less
     loop-again
-    returns)
+    returns-2)

@@ -4,7 +4,7 @@ use Rattle.basics.specs.Scan.{allBelow}
 use Rattle.channel.specs.declared.Request.{Request}
 use Rattle.frame.specs.Frame.{present as presentRows}
 use Rattle.sound.proofs.TableLaws.{SearchedTo, searched-none, turn-closed, turn-none, turn-held, turn-on}
-use Rattle.sound.specs.Tables.{requestAt, openSound, isOpenSound, areOpenSound}
+use Rattle.sound.specs.Tables.{requestAt, openSound, areOpenSound}
 use borrow.Author.Tests.{not-true, not-false, eq-eqb, ne-eqb}
 use denote.Ref.{now}
 use lib.ListN.{getD}
@@ -18,7 +18,7 @@ use Rattle.sound.proofs.are_open_sound.Tie as tie
 abbrev Inv-loop : tie.InvT-loop
 Inv-loop setup present direction space address left offset slaves count level₀ i₀ level i =
     (level ≤ 16) × (count ≡ presentRows (setup .slaves .count)) × (i ≤ count)
-    × (allBelow (isOpenSound setup present direction space address left offset) level ≡ true)
+    × (allBelow (λ (l : ℕ). openSound setup (getD present l false) l (requestAt direction space address left offset l)) level ≡ true)
     × SearchedTo (setup .slaves) (requestAt direction space address left offset level) i count
 
 abbrev μ-loop : tie.MeasureT-loop
@@ -88,7 +88,7 @@ head c = c .before .before .before .before .before .before .before .before .befo
 
 -- the request of a level whose slave row was found is sound as the rest of it is
 held : (c : tie.After-is-rest-sound Inv-loop μ-loop)
-    → openSound (start c .args .setup) (getD (now (start c .args .present)) (head c .loop .level) false) (rests (start c) (head c .loop .level))
+    → openSound (start c .args .setup) (getD (now (start c .args .present)) (head c .loop .level) false) (head c .loop .level) (rests (start c) (head c .loop .level))
     ≡ c .is-rest-sound .result
 held c =
     let l = head c .loop in

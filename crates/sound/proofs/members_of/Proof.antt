@@ -1,7 +1,7 @@
 use Prim.Native.Nat.{_+_, _-_, _≤_}
 use Rattle.frame.specs.Frame.{present as presentRows}
 use Rattle.sound.proofs.TableLaws.{TellsFrom, tells-none, tells-more, tells-same, tells-all}
-use Rattle.sound.specs.Rows.{isLevel}
+use Rattle.frame.specs.Rows.{isLevel}
 use Rattle.sound.specs.Tables.{isFairRow}
 use lib.ListN.{length, length-set, replicate, getD-replicate}
 use mathlib.Core.Bool.{true, false}

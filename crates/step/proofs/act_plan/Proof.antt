@@ -25,7 +25,12 @@ returns : tie.Need-returns
 unfolding actPlan
 returns c =
     let a = c .before .before .before .before .args in
-    rw (ap (λ (p : Phase). phasePlan (a .setup) (a .t2) p) (c .before .before .enum-told .given .1), ← c .before .arbitration-time .ensures, lt-ltb _ _ (c .if1 .taken))
+    rw (
+      ap (λ (p : Phase). phasePlan (a .setup) (a .t2) p) (c .before .before .enum-told .given .1),
+      ←
+          c .before .arbitration-time .ensures,
+      lt-ltb _ _ (c .if1 .taken),
+    )
 
 winner-of-requires : tie.Need-winner-of-requires
 winner-of-requires c κs = search needs

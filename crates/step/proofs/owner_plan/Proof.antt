@@ -15,13 +15,21 @@ returns : tie.Need-returns
 unfolding ownerPlan
 returns c =
     let a = c .before .before .before .before .before .before .before .before .args in
-    rw (← ap (requestPlan (a .setup) (a .t2) (a .owner)) (c .before .before .before .before .before .before .before .request-of .ensures), eq-eqb _ 0 (c .before .before .before .before .before .if1 .taken), sym (c .before .line-active .ensures) ∙ c .if2 .taken)
+    rw (
+      ← ap (requestPlan (a .setup) (a .t2) (a .owner)) (c .before .before .before .before .before .before .before .request-of .ensures),
+      eq-eqb _ 0 (c .before .before .before .before .before .if1 .taken),
+      sym (c .before .line-active .ensures) ∙ c .if2 .taken,
+    )
 
 returns-2 : tie.Need-returns-2
 unfolding ownerPlan
 returns-2 c =
     let a = c .before .before .before .before .before .before .before .before .args in
-    rw (← ap (requestPlan (a .setup) (a .t2) (a .owner)) (c .before .before .before .before .before .before .before .request-of .ensures), eq-eqb _ 0 (c .before .before .before .before .before .if1 .taken), sym (c .before .line-active .ensures) ∙ c .if2 .left)
+    rw (
+      ← ap (requestPlan (a .setup) (a .t2) (a .owner)) (c .before .before .before .before .before .before .before .request-of .ensures),
+      eq-eqb _ 0 (c .before .before .before .before .before .if1 .taken),
+      sym (c .before .line-active .ensures) ∙ c .if2 .left,
+    )
 
 slave-of-requires : tie.Need-slave-of-requires
 slave-of-requires c κs = search needs
@@ -39,13 +47,25 @@ returns-3 : tie.Need-returns-3
 unfolding ownerPlan
 returns-3 c =
     let a = c .before .before .before .before .before .before .before .args in
-    rw (← ap (requestPlan (a .setup) (a .t2) (a .owner)) (c .before .before .before .before .before .before .request-of .ensures), ne-eqb _ 0 (c .before .before .before .before .if1 .left), ← c .before .before .slave-of .ensures, lt-ltb _ _ (c .if3 .taken))
+    rw (
+      ← ap (requestPlan (a .setup) (a .t2) (a .owner)) (c .before .before .before .before .before .before .request-of .ensures),
+      ne-eqb
+          _ 0 (c .before .before .before .before .if1 .left),
+      ← c .before .before .slave-of .ensures,
+      lt-ltb _ _ (c .if3 .taken),
+    )
 
 returns-4 : tie.Need-returns-4
 unfolding ownerPlan
 returns-4 c =
     let a = c .before .before .before .before .before .before .before .args in
-    rw (← ap (requestPlan (a .setup) (a .t2) (a .owner)) (c .before .before .before .before .before .before .request-of .ensures), ne-eqb _ 0 (c .before .before .before .before .if1 .left), ← c .before .before .slave-of .ensures, le-ltb _ _ (c .if3 .left))
+    rw (
+      ← ap (requestPlan (a .setup) (a .t2) (a .owner)) (c .before .before .before .before .before .before .request-of .ensures),
+      ne-eqb
+          _ 0 (c .before .before .before .before .if1 .left),
+      ← c .before .before .slave-of .ensures,
+      le-ltb _ _ (c .if3 .left),
+    )
 
 pub owner-plan-spec : {M : Type 1} → statement M
 owner-plan-spec =

@@ -20,7 +20,8 @@ returns : tie.Need-returns
 unfolding planOf
 returns c =
     let a = c .before .before .before .before .args in
-    c .act-plan .ensures ∙ ap (planBy (a .setup) (a .channel)) (sym (c .before .enum-told .given .1) ∙ c .before .before .before .ready-verdict .ensures)
+    c .act-plan .ensures ∙ ap (planBy (a .setup) (a .channel)) (sym (c .before .enum-told .given .1)
+    ∙ c .before .before .before .ready-verdict .ensures)
 
 returns-2 : tie.Need-returns-2
 unfolding planOf

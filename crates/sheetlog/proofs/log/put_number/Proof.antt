@@ -1,50 +1,74 @@
-use borrow.Author.Needs.{needs}
+use Prim.Native.Nat.{_-_, _≤_, _<_}
 use native.Mathlib.Omega.{arith}
+use borrow.Author.Needs.{needs}
 use Rattle.sheetlog.proofs.DigitLaws.{few-digits}
 use Rattle.sheetlog.proofs.log.put_number.Statement.{statement}
 use Rattle.sheetlog.proofs.log.put_number.Tie as tie
 
-decimal-requires : tie.Need-decimal-requires
+abbrev Inv-loop : tie.InvT-loop
+Inv-loop line₀ at n digits size i₀ line i = (size < 21) × (i ≤ size)
+
+abbrev μ-loop : tie.MeasureT-loop
+μ-loop line₀ at n digits size i₀ line i = size - i
+
+decimal-requires : tie.Need-decimal-requires Inv-loop μ-loop
 decimal-requires c κs = search needs
 
-element-write-line : tie.Need-element-write-line
+element-write-line : tie.Need-element-write-line Inv-loop μ-loop
 element-write-line c = search needs
 
-array-share-prefix-digits : tie.Need-array-share-prefix-digits
-array-share-prefix-digits c = search needs
+loop-holds : tie.Need-loop-holds Inv-loop μ-loop
+loop-holds c =
+    let d = c .decimal in
+    let few = few-digits (c .before .before .args .n) (d .result) (omega arith) (d .ensures .1 .0 .2) in
+    (few, omega arith)
 
-slice-aggregate-move-bytes : tie.Need-slice-aggregate-move-bytes
-slice-aggregate-move-bytes c = search needs
+array-read-line : tie.Need-array-read-line Inv-loop μ-loop
+array-read-line c = search needs
 
-add-move-bytes : tie.Need-add-move-bytes
-add-move-bytes c = search needs
+add-line : tie.Need-add-line Inv-loop μ-loop
+add-line c = search needs
 
-move-bytes-requires : tie.Need-move-bytes-requires
-move-bytes-requires c κs = search needs
+add-line-2 : tie.Need-add-line-2 Inv-loop μ-loop
+add-line-2 c = search needs
 
-add-result : tie.Need-add-result
+element-write-line-2 : tie.Need-element-write-line-2 Inv-loop μ-loop
+element-write-line-2 c = search needs
+
+add-i : tie.Need-add-i Inv-loop μ-loop
+add-i c = search needs
+
+loop-less : tie.Need-loop-less Inv-loop μ-loop
+loop-less c = search needs
+
+loop-again : tie.Need-loop-again Inv-loop μ-loop
+loop-again c = (c .before .loop .inv .0, omega arith)
+
+add-result : tie.Need-add-result Inv-loop μ-loop
 add-result c = search needs
 
-add-result-2 : tie.Need-add-result-2
-add-result-2 c =
-    let d = c .before .before .before .decimal in
-    omega (arith, few-digits (c .before .before .before .before .before .args .n) (d .result) (omega arith) (d .ensures .1 .0 .2))
+add-result-2 : tie.Need-add-result-2 Inv-loop μ-loop
+add-result-2 c = search needs
 
-returns : tie.Need-returns
-returns c =
-    let d = c .before .before .before .decimal in
-    omega (arith, few-digits (c .before .before .before .before .before .args .n) (d .result) (omega arith) (d .ensures .1 .0 .2))
+returns : tie.Need-returns Inv-loop μ-loop
+returns c = search needs
 
 pub put-number-spec : {M : Type 1} → statement M
 put-number-spec =
     tie.close
     (tie.spec
+    Inv-loop
+    μ-loop
     decimal-requires
     element-write-line
-    array-share-prefix-digits
-    slice-aggregate-move-bytes
-    add-move-bytes
-    move-bytes-requires
+    loop-holds
+    array-read-line
+    add-line
+    add-line-2
+    element-write-line-2
+    add-i
+    loop-less
+    loop-again
     add-result
     add-result-2
     returns)

@@ -1,0 +1,168 @@
+-- A run that goes on: what holds before each turn, and that a turn keeps it.
+use Prim.Native.Nat.{ℕ, suc, _-_, _≤_, _<_}
+use mathlib.Core.Path.{_≡_, refl, sym, ap, _∙_}
+use mathlib.Core.Bool.{Bool, true, false, cond, not, _&&_, false≢true}
+use mathlib.Core.Logic.{_⊎_, ⊎-elim}
+use mathlib.Core.List.{List}
+use native.Mathlib.Nat.{sub-zero}
+use native.Mathlib.Omega.{arith}
+use borrow.Author.Tests.{ltb-false, leb-true, leb-false, not-true}
+use lib.ListN.{length, getD}
+use lib.Dec.{eqb, leb, ltb}
+use Rattle.basics.proofs.Tests.{by-test}
+use Rattle.frame.specs.declared.Setup.{Setup}
+use Rattle.channel.specs.declared.Phase.{Phase}
+use Rattle.channel.specs.declared.Phase.the-variants.{Arbitrating, Granted}
+use Rattle.channel.specs.declared.Channel.{Channel}
+use Rattle.channel.specs.Channel.{ownerOf, placeIn, hasRequest, requestOf, Shaped}
+use Rattle.channel.specs.Line.{waits}
+use Rattle.sound.proofs.SoundFacts.{sound-is}
+use Rattle.act.specs.declared.Path.{Path}
+use Rattle.act.specs.Cycle.{pathOf}
+use Rattle.tally.specs.declared.Tally.{Tally}
+use Rattle.step.specs.Step.{Ready}
+use Rattle.step.specs.Run.{ended, runFrom}
+use Rattle.step.specs.Machine.{noPath, NoneAsk}
+use Rattle.step.specs.Turns.{Running, worldOf, verdictIf, toCome, ArePaths, Lows, Turnable, turnBy, turnOf}
+use Rattle.step.proofs.PlanLaws.{roomy}
+use Rattle.step.proofs.TurnLaws.{Turned, one-step}
+use Rattle.step.proofs.CycleLaws.{cycles-turn}
+
+-- from its start on
+pub record Going (setup : Setup) (budget : ℕ) (paths : List Path) (first w : Running) : Type 0 where
+  pub same : toCome setup budget w ≡ toCome setup budget first
+  pub ready : Ready setup (w .channel) (length (w .slave)) (length (w .master))
+  pub shaped : Shaped (w .channel)
+  pub least : w .done ≤ budget
+  pub routed : ArePaths setup (requestOf (w .channel)) paths 16
+
+open-is : (n : ℕ) → eqb n 0 ≡ false → not (eqb n 0) ≡ true
+open-is n e = rw e
+
+pub go-on : (setup : Setup) (budget : ℕ) (paths : List Path) (first w later : Running) → Going setup budget paths first w
+    → Turned setup budget w later
+    → Going setup budget paths first later
+go-on setup budget paths first w later g t =
+    record {
+      same = t .same ∙ g .same;
+      ready = t .ready;
+      shaped = t .shaped;
+      least = t .least;
+      routed = λ l n a.
+          let p = t .ways l (open-is (getD (later .channel .left) l 0) a) in
+          g .routed l n (not-true (eqb (getD (w .channel .left) l 0) 0) (p .0)) ∙ sym (p .1);
+    }
+
+module _ (setup : Setup) (budget : ℕ) (paths : List Path) (first w : Running) (g : Going setup budget paths first w) (f : w .full ≡ false)
+    (h : w .done < budget) where
+  abbrev path : Path
+  path = getD paths (placeIn (w .channel .phase)) noPath
+
+  small : (o : ℕ) → w .channel .phase ≡ Granted o → o < 16
+  small o p = omega (arith, sound-is setup (w .channel) (g .ready .sound) .settled .owner o p .small)
+
+  path-is : (o : ℕ) → w .channel .phase ≡ Granted o → eqb (getD (w .channel .left) o 0) 0 ≡ false → path
+      ≡ pathOf setup o (requestOf (w .channel) o)
+  path-is o p some = ap (λ (x : Phase). getD paths (placeIn x) noPath) p ∙ g .routed o (small o p) some
+
+  -- whatever the phase
+  turn-by : (p : Phase) → w .channel .phase ≡ p → Turned setup budget w (turnBy path budget w p)
+  turn-by Arbitrating e = one-step setup budget w f h (g .ready) (g .shaped) path path-is
+  turn-by (Granted o) e =
+      by-test (eqb (getD (w .channel .left) o 0) 0)
+      (λ z. rw z (one-step setup budget w f h (g .ready) (g .shaped) path path-is))
+      (λ n. rw n (cycles-turn setup budget w f h (g .ready) (g .shaped) o e n path (path-is o e n)))
+
+  turned : Turned setup budget w (turnOf path budget w)
+  unfolding turnOf
+  turned = turn-by (w .channel .phase) refl
+
+  pub turned-by : (later : Running) (i : ℕ) → i ≡ placeIn (w .channel .phase) → later ≡ turnOf (getD paths i noPath) budget w
+      → Turned setup budget w later
+  turned-by later i e t = rw (t, e) turned
+
+  pub place-below : placeIn (w .channel .phase) < 16
+  place-below = below (w .channel .phase) refl
+    where
+      below : (p : Phase) → w .channel .phase ≡ p → placeIn p < 16
+      below Arbitrating e = omega arith
+      below (Granted o) e = small o e
+
+  -- what the turn relies on
+  pub turnable : (base low : ℕ) → budget ≤ 65535 → Lows base low (w .channel) → Turnable path base low budget w
+  turnable base low most lows =
+      let s = sound-is setup (w .channel) (g .ready .sound) .settled in
+      record {
+        clock = s .clock;
+        budgeted = most;
+        more = h;
+        going = f;
+        lows = lows;
+        owned = λ o p.
+            record {
+              small = small o p;
+              active = s .owner o p .active;
+              roomy = λ some. rw (path-is o p some) (roomy setup (w .channel) o (length (w .slave)) (length (w .master)) (g .ready) p some);
+            };
+      }
+
+-- each turn brings the end nearer
+abbrev pub nearness : ℕ → Bool → ℕ → ℕ
+nearness budget full done = cond full 0 (suc (budget - done))
+
+pub nearer : (budget done later : ℕ) (full now : Bool) → now ≡ false → done < budget → (full ≡ true) ⊎ (done < later)
+    → nearness budget full later < nearness budget now done
+nearer budget done later full now e h m =
+    rw e
+    (⊎-elim
+    (λ t. rw t (omega arith))
+    (λ l. by-test full (λ t. rw t (omega arith)) (λ n. rw n (omega (arith, h, l))))
+    m)
+
+-- where a run begins
+pub start-going : (setup : Setup) (budget : ℕ) (paths : List Path) (ch : Channel) (t : Tally) (slave master : List ℕ)
+    → Ready setup ch (length slave) (length master) → Shaped ch → ArePaths setup (requestOf ch) paths 16
+    → Going setup budget paths (record { channel = ch; tally = t; done = 0; full = false; slave = slave; master = master })
+    (record { channel = ch; tally = t; done = 0; full = false; slave = slave; master = master })
+start-going setup budget paths ch t slave master r k a = record { same = refl; ready = r; shaped = k; least = omega arith; routed = a }
+
+-- the owner has a request or is 15, so that no search begins above it
+pub start-lows : (setup : Setup) (ch : Channel) (s m base : ℕ) → Ready setup ch s m → base ≤ 15 → NoneAsk (ch .left) base
+    → Lows base base ch
+unfolding waits
+start-lows setup ch s m base r most none =
+    record {
+      most = most;
+      small = omega (arith, most);
+      none = none;
+      clear = λ l h. rw (none l h);
+      owner = below-owner (ch .phase) refl;
+    }
+  where
+    asks-above : (o : ℕ) → hasRequest (ch .left) o ≡ true → base ≤ o
+    asks-above o e =
+        by-test (leb base o)
+        (λ t. leb-true base o t)
+        (λ f. absurd (false≢true (sym (none o (omega (arith, leb-false base o f))) ∙ e)))
+
+    below-owner : (p : Phase) → ch .phase ≡ p → base ≤ ownerOf p
+    below-owner Arbitrating e = omega (arith, most)
+    below-owner (Granted o) e =
+        ⊎-elim (λ five. omega (arith, five, most)) (asks-above o) (sound-is setup ch (r .sound) .settled .owner o e .asking)
+
+-- where it ends: the budget is used up, or the clock is full
+pub finished : (setup : Setup) (budget : ℕ) (w : Running) → (ltb (w .done) budget && not (w .full)) ≡ false → w .done ≤ budget
+    → toCome setup budget w ≡ ended (verdictIf (w .full)) (w .done) (worldOf w)
+unfolding toCome runFrom
+finished setup budget w e l =
+    by-test (w .full)
+    (λ t. rw t)
+    (λ n.
+    let f : ltb (w .done) budget ≡ false = by-test (ltb (w .done) budget) (λ t. absurd (false≢true (sym (rw (t, n) at e)))) (λ x. x) in
+    let z : budget - w .done ≡ 0 = omega (arith, ltb-false (w .done) budget f) in
+    rw (n, z))
+
+pub first-come : (setup : Setup) (budget : ℕ) (w : Running) → w .full ≡ false → w .done ≡ 0
+    → toCome setup budget w ≡ runFrom setup budget 0 (worldOf w)
+unfolding toCome
+first-come setup budget w f d = rw (f, d, sub-zero budget)

@@ -1,0 +1,135 @@
+use mathlib.Core.Path.{sym, ap, _∙_}
+use borrow.Author.Tests.{eq-eqb, ne-eqb, ltb-false}
+use Prim.Native.Nat.{ℕ, _+_}
+use lib.Dec.{ltb}
+use Rattle.step.proofs.DecideLaws.{from-first, decides-full, decides-grant, decides-rest, decides-late, decides-cycle}
+use borrow.Author.Needs.{needs}
+use Rattle.step.proofs.acts.act_on.Statement.{statement}
+use Rattle.step.proofs.acts.act_on.Tie as tie
+
+enum-told : tie.Need-enum-told
+enum-told c = search needs
+
+arbitration-time-requires : tie.Need-arbitration-time-requires
+arbitration-time-requires c κs = search needs
+
+is-full-requires : tie.Need-is-full-requires
+is-full-requires c κs = search needs
+
+full-requires : tie.Need-full-requires
+full-requires c κs = search needs
+
+stay-requires : tie.Need-stay-requires
+stay-requires c κs = search needs
+
+returns : tie.Need-returns
+returns c =
+    let a = c .before .before .before .before .before .before .before .args in
+    let full = (ap (λ (x : ℕ). ltb 4000000000 (c .before .before .before .before .before .before .before .args .standing .clock + x))
+    (sym (c .before .before .before .before .arbitration-time .ensures)) ∙ sym (c .before .before .before .is-full .ensures)
+    ∙ c .before .before .if1 .taken) in
+    decides-full _ (a .standing) _ (a .left .now) (a .inactive .now) (c .before .before .before .before .before .enum-told .given .1) _
+    full (c .stay .ensures ∙ rw (c .before .full .ensures))
+
+choose-requires : tie.Need-choose-requires
+choose-requires c κs = from-first _ _
+
+granted-requires : tie.Need-granted-requires
+granted-requires c κs = ltb-false 4000000000 _ (ap (λ (x : ℕ). ltb 4000000000
+    (c .before .before .before .before .before .before .before .args .standing .clock + x))
+    (sym (c .before .before .before .before .arbitration-time .ensures)) ∙ sym (c .before .before .before .is-full .ensures)
+    ∙ c .before .before .if1 .left)
+
+stay-requires-2 : tie.Need-stay-requires-2
+stay-requires-2 c κs = search needs
+
+enum-known-phase : tie.Need-enum-known-phase
+enum-known-phase c = search needs
+
+rest-requires : tie.Need-rest-requires
+rest-requires c κs = search needs
+
+stay-requires-3 : tie.Need-stay-requires-3
+stay-requires-3 c κs = search needs
+
+returns-2 : tie.Need-returns-2
+returns-2 c =
+    let a = c .before .before .before .before .before .before .before .args in
+    decides-rest _ (a .standing) (a .request) (a .left .now) (a .inactive .now) _
+    (c .before .before .before .before .before .phase .given .1) _ (eq-eqb _ 0 (c .before .before .if2 .taken))
+    (c .stay3 .ensures ∙ rw (c .before .rest .ensures))
+
+is-full-requires-2 : tie.Need-is-full-requires-2
+is-full-requires-2 c κs = search needs
+
+full-requires-2 : tie.Need-full-requires-2
+full-requires-2 c κs = search needs
+
+stay-requires-4 : tie.Need-stay-requires-4
+stay-requires-4 c κs = search needs
+
+returns-3 : tie.Need-returns-3
+returns-3 c =
+    let a = c .before .before .before .before .before .before .before .before .before .args in
+    decides-late _ (a .standing) (a .request) (a .left .now) (a .inactive .now) _
+    (c .before .before .before .before .before .before .before .phase .given .1)
+    (ne-eqb _ 0 (c .before .before .before .before .if2 .left)) _
+    (sym (c .before .before .before .is-full2 .ensures) ∙ c .before .before .if3 .taken)
+    (c .stay4 .ensures ∙ rw (c .before .full2 .ensures))
+
+decide-cycle-requires : tie.Need-decide-cycle-requires
+decide-cycle-requires c κs =
+    let p = c .before .before .before .before .before .before .phase .given .1 in
+    let pre = c .before .before .before .before .before .before .before .before .pre in (
+      pre .small _ p,
+      (
+        ltb-false 4000000000 _ (sym (c .before .before .is-full2 .ensures) ∙ c .before .if3 .left),
+        pre .way _ p
+            (ne-eqb _ 0 (c .before .before .before .if2 .left)),
+      ),
+    )
+
+returns-4 : tie.Need-returns-4
+returns-4 c =
+    let a = c .before .before .before .before .before .before .before .before .before .args in
+    decides-grant _ (a .standing) _ (a .left .now) (a .inactive .now)
+    (c .before .before .before .before .before .before .before .enum-told .given .1) _ _ _ _
+    (ap (λ (x : ℕ). ltb 4000000000 (c .before .before .before .before .before .before .before .before .before .args .standing .clock + x))
+    (sym (c .before .before .before .before .before .before .arbitration-time .ensures))
+    ∙ sym (c .before .before .before .before .before .is-full .ensures) ∙ c .before .before .before .before .if1 .left)
+    (c .before .before .choose .ensures)
+    (c .stay2 .ensures ∙ rw (c .before .granted .ensures))
+
+returns-5 : tie.Need-returns-5
+returns-5 c =
+    let a = c .before .before .before .before .before .before .before .before .before .args in
+    decides-cycle _ (a .standing) (a .request) (a .left .now) (a .inactive .now) _
+    (c .before .before .before .before .before .before .before .phase .given .1)
+    (ne-eqb _ 0 (c .before .before .before .before .if2 .left)) _ _
+    (sym (c .before .before .before .is-full2 .ensures) ∙ c .before .before .if3 .left) (c .decide-cycle .ensures .0)
+    (c .decide-cycle .ensures .1)
+
+pub act-on-spec : {M : Type 1} → statement M
+act-on-spec =
+    tie.close
+    (tie.spec
+    enum-told
+    arbitration-time-requires
+    is-full-requires
+    full-requires
+    stay-requires
+    returns
+    choose-requires
+    granted-requires
+    stay-requires-2
+    enum-known-phase
+    rest-requires
+    stay-requires-3
+    returns-2
+    is-full-requires-2
+    full-requires-2
+    stay-requires-4
+    returns-3
+    decide-cycle-requires
+    returns-4
+    returns-5)

@@ -1,0 +1,46 @@
+use Rattle.step.proofs.SearchLaws.{chosen-active, chosen-quiet, winner-small}
+use mathlib.Core.Path.{sym, _∙_}
+use native.Mathlib.Omega.{arith}
+use borrow.Author.Needs.{needs}
+use Rattle.step.proofs.acts.choose.Statement.{statement}
+use Rattle.step.proofs.acts.choose.Tie as tie
+
+winner-from-requires : tie.Need-winner-from-requires
+winner-from-requires c κs = search needs
+
+add-waits-from : tie.Need-add-waits-from
+add-waits-from c =
+    let w = c .before .winner-from .ensures in
+    let a = c .before .before .before .args in
+    record { fits = omega (arith, w, winner-small (a .left .now) (a .inactive .now)) }
+
+waits-from-requires : tie.Need-waits-from-requires
+waits-from-requires c κs = search needs
+
+returns : tie.Need-returns
+returns c =
+    let five = c .before .before .before .before .before in
+    chosen-active (five .args .left .now) (five .args .inactive .now) _ _ _ (five .pre) (c .before .before .before .winner-from .ensures)
+    (sym (c .before .waits-from .ensures) ∙ c .if1 .taken)
+
+others-from-requires : tie.Need-others-from-requires
+others-from-requires c κs = search needs
+
+returns-2 : tie.Need-returns-2
+returns-2 c =
+    let seven = c .before .before .before .before .before .before .before in
+    chosen-quiet (seven .args .left .now) (seven .args .inactive .now) _ _ _ (seven .pre)
+    (c .before .before .before .before .before .winner-from .ensures) _
+    (sym (c .before .before .before .waits-from .ensures) ∙ c .before .before .if1 .left)
+    (c .others-from .ensures)
+
+pub choose-spec : {M : Type 1} → statement M
+choose-spec =
+    tie.close
+    (tie.spec
+    winner-from-requires
+    add-waits-from
+    waits-from-requires
+    returns
+    others-from-requires
+    returns-2)

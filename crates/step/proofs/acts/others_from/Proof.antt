@@ -1,0 +1,64 @@
+use mathlib.Core.Path.{_≡_, refl, sym, _∙_}
+use native.Mathlib.Omega.{arith}
+use Prim.Native.Nat.{_-_}
+use Rattle.step.specs.Machine.{anyFrom, asksBeside, othersFrom}
+use Rattle.step.proofs.SearchLaws.{from-hit, from-miss}
+use Rattle.step.proofs.acts.others_from.Statement.{statement}
+use Rattle.step.proofs.acts.others_from.Tie as tie
+
+abbrev Inv-loop : tie.InvT-loop
+Inv-loop left from owner level₀ level = anyFrom (asksBeside left owner) level (16 - level) ≡ othersFrom left from owner
+
+abbrev μ-loop : tie.MeasureT-loop
+μ-loop left from owner level₀ level = 16 - level
+
+loop-holds : tie.Need-loop-holds Inv-loop μ-loop
+unfolding othersFrom
+loop-holds c = refl
+
+cast-if1 : tie.Need-cast-if1 Inv-loop μ-loop
+cast-if1 c = omega arith
+
+mul-if1 : tie.Need-mul-if1 Inv-loop μ-loop
+mul-if1 c = omega arith
+
+element-copy-out-if1 : tie.Need-element-copy-out-if1 Inv-loop μ-loop
+element-copy-out-if1 c = omega arith
+
+returns : tie.Need-returns Inv-loop μ-loop
+unfolding asksBeside
+returns c = let l = c .before .before .before .loop in sym (from-hit (asksBeside
+    (c .before .before .before .before .args .left .now) (c .before .before .before .before .args .owner)) (l .level)
+    (16 - l .level) (l .level) (omega arith) (omega arith) (c .if1 .taken)) ∙ l .inv
+
+add-level : tie.Need-add-level Inv-loop μ-loop
+add-level c = omega arith
+
+loop-less : tie.Need-loop-less Inv-loop μ-loop
+loop-less c = omega arith
+
+loop-again : tie.Need-loop-again Inv-loop μ-loop
+unfolding asksBeside
+loop-again c = let l = c .before .before .before .loop in sym (from-miss (asksBeside
+    (c .before .before .before .before .args .left .now) (c .before .before .before .before .args .owner))
+    (l .level) 16 (omega arith) (c .if1 .left)) ∙ l .inv
+
+returns-2 : tie.Need-returns-2 Inv-loop μ-loop
+unfolding anyFrom
+returns-2 c = let e : 16 - c .before .loop .level ≡ 0 = omega arith in rw e at (c .before .loop .inv)
+
+pub others-from-spec : {M : Type 1} → statement M
+others-from-spec =
+    tie.close
+    (tie.spec
+    Inv-loop
+    μ-loop
+    loop-holds
+    cast-if1
+    mul-if1
+    element-copy-out-if1
+    returns
+    add-level
+    loop-less
+    loop-again
+    returns-2)

@@ -1,0 +1,60 @@
+use Rattle.step.proofs.AfterLaws.{after-done, some-left, after-leaving, after-staying}
+use mathlib.Core.Path.{sym, _∙_}
+use borrow.Author.Needs.{needs}
+use Rattle.step.proofs.cycles.after_cycle.Statement.{statement}
+use Rattle.step.proofs.cycles.after_cycle.Tie as tie
+
+no-request-requires : tie.Need-no-request-requires
+no-request-requires c κs = search needs
+
+released-by-requires : tie.Need-released-by-requires
+released-by-requires c κs = search needs
+
+returns : tie.Need-returns
+returns c =
+    let four = c .before .before .before .before in
+    rw (c .before .no-request .ensures, c .released-by .ensures) (after-done _ _ _ _ _ (four .pre .1) (c .before .before .if1 .taken))
+
+rest-of-requires : tie.Need-rest-of-requires
+rest-of-requires c κs = search needs
+
+is-leaving-requires : tie.Need-is-leaving-requires
+is-leaving-requires c κs =
+    let three = c .before .before .before in
+    let w = three .pre .0 in
+    let a = three .args in (
+      w .width,
+      (
+        w .port,
+        some-left (a .path) (a .asked) (a .clock) (a .request) (a .bytes) (three .pre .1) _ (c .rest-of .ensures)
+            (c .before .if1 .left),
+      ),
+    )
+
+released-by-requires-2 : tie.Need-released-by-requires-2
+released-by-requires-2 c κs = search needs
+
+returns-2 : tie.Need-returns-2
+returns-2 c =
+    let six = c .before .before .before .before .before .before in
+    rw (c .released-by2 .ensures)
+    (after-leaving _ _ _ _ _ (six .pre .1) _ (c .before .before .before .rest-of .ensures)
+    (sym (c .before .before .is-leaving .ensures) ∙ c .before .if2 .taken))
+
+returns-3 : tie.Need-returns-3
+returns-3 c =
+    let five = c .before .before .before .before .before in
+    after-staying _ _ _ _ _ (five .pre .1) _ (c .before .before .rest-of .ensures) (sym (c .before .is-leaving .ensures) ∙ c .if2 .left)
+
+pub after-cycle-spec : {M : Type 1} → statement M
+after-cycle-spec =
+    tie.close
+    (tie.spec
+    no-request-requires
+    released-by-requires
+    returns
+    rest-of-requires
+    is-leaving-requires
+    released-by-requires-2
+    returns-2
+    returns-3)

@@ -1,0 +1,53 @@
+use mathlib.Core.Path.{refl, sym, _∙_}
+use Rattle.step.proofs.PlanLaws.{ready-is}
+use Rattle.step.proofs.CarryLaws.{refused-decision, ready-decision}
+use borrow.Author.Needs.{needs}
+use Rattle.step.proofs.decide.Statement.{statement}
+use Rattle.step.proofs.decide.Tie as tie
+
+ready-verdict-requires : tie.Need-ready-verdict-requires
+ready-verdict-requires c κs = search needs
+
+enum-known-verdict : tie.Need-enum-known-verdict
+enum-known-verdict c = search needs
+
+refused-requires : tie.Need-refused-requires
+refused-requires c κs = search needs
+
+enum-told : tie.Need-enum-told
+enum-told c = search needs
+
+decide-ready-requires : tie.Need-decide-ready-requires
+decide-ready-requires c κs =
+    let five = c .before .before .before .before .before in
+    let a = five .args in
+    let r = ready-is (a .setup) (a .channel) _ _ (sym (c .before .before .ready-verdict .ensures) ∙ c .enum-told .given .1) in
+    record { framed = r .framed; sound = r .sound; slave = refl; master = refl }
+
+returns : tie.Need-returns
+returns c =
+    let five = c .before .before .before .before .before in
+    let a = five .before .before .args in
+    c .refused .ensures
+    ∙ refused-decision (a .setup) (a .channel) (a .slave .now) (a .master .now) (a .tally) _
+    (sym (c .before .before .before .before .ready-verdict .ensures) ∙ c .before .before .verdict .given .1)
+
+returns-2 : tie.Need-returns-2
+returns-2 c =
+    let five = c .before .before .before .before .before in
+    let a = five .before .args in
+    c .decide-ready .ensures
+    ∙ ready-decision (a .setup) (a .channel) (a .slave .now) (a .master .now) (a .tally)
+    (sym (c .before .before .before .ready-verdict .ensures) ∙ c .before .enum-told .given .1)
+
+pub decide-spec : {M : Type 1} → statement M
+decide-spec =
+    tie.close
+    (tie.spec
+    ready-verdict-requires
+    enum-known-verdict
+    refused-requires
+    enum-told
+    decide-ready-requires
+    returns
+    returns-2)

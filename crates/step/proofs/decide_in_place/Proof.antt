@@ -1,0 +1,74 @@
+use mathlib.Core.Path.{_∙_}
+use Rattle.step.proofs.MachineLaws.{place-small, actable, decision-made}
+use borrow.Author.Needs.{needs}
+use Rattle.step.proofs.decide_in_place.Statement.{statement}
+use Rattle.step.proofs.decide_in_place.Tie as tie
+
+place-at-requires : tie.Need-place-at-requires
+place-at-requires c κs = search needs
+
+slot-at-requires : tie.Need-slot-at-requires
+slot-at-requires c κs =
+    let five = c .before .before .before .before .before in
+    let ten = five .before .before .before .before .before in
+    let a = ten .before .before .args in
+    let p = ten .before .before .pre in
+    rw (five .place-at .ensures) (place-small (a .setup) (a .channel) (a .tally) _ _ (p .0) (p .1))
+
+path-for-requires : tie.Need-path-for-requires
+path-for-requires c κs =
+    let five = c .before .before .before .before .before in
+    let ten = five .before .before .before .before .before in
+    let a = ten .before .before .before .args in
+    let p = ten .before .before .before .pre in
+    rw (five .before .place-at .ensures) (place-small (a .setup) (a .channel) (a .tally) _ _ (p .0) (p .1))
+
+act-on-requires : tie.Need-act-on-requires
+act-on-requires c κs =
+    let five = c .before .before .before .before .before in
+    let ten = five .before .before .before .before .before in
+    let fifteen = ten .before .before .before .before .before in
+    let a = fifteen .before .args in
+    let p = fifteen .before .pre in
+    actable (a .setup) (a .channel) (a .tally) _ _ (p .0) (p .1) _ (five .before .before .before .before .place-at .ensures) _
+    (c .before .before .before .slot-at .ensures) _ (c .before .before .path-for .ensures)
+
+put-slot-requires : tie.Need-put-slot-requires
+put-slot-requires c κs =
+    let five = c .before .before .before .before .before in
+    let ten = five .before .before .before .before .before in
+    let fifteen = ten .before .before .before .before .before in
+    let twenty = fifteen .before .before .before .before .before in
+    let a = twenty .before .before .before .args in
+    let p = twenty .before .before .before .pre in
+    rw (fifteen .before .place-at .ensures) (place-small (a .setup) (a .channel) (a .tally) _ _ (p .0) (p .1))
+
+channel-of-requires : tie.Need-channel-of-requires
+channel-of-requires c κs = search needs
+
+returns : tie.Need-returns
+returns c =
+    let five = c .before .before .before .before .before in
+    let ten = five .before .before .before .before .before in
+    let fifteen = ten .before .before .before .before .before in
+    let twenty = fifteen .before .before .before .before .before in
+    let twenty-five = twenty .before .before .before .before .before in
+    let a = twenty-five .before .before .before .before .args in
+    let p = twenty-five .before .before .before .before .pre in
+    let d = ten .before .before .act-on .ensures in
+    let slots = five .put-slot .ensures in
+    decision-made (a .setup) (a .channel) (a .tally) _ _ (p .0) (p .1) _ (twenty .before .before .place-at .ensures) _
+    (fifteen .before .slot-at .ensures) _ (fifteen .path-for .ensures)
+    _ _ _ (d .0) (d .1) (c .channel-of .ensures ∙ rw (slots .0, slots .1 .0, slots .1 .1 .0, slots .1 .1 .1 .0, slots .1 .1 .1 .1))
+
+pub decide-in-place-spec : {M : Type 1} → statement M
+decide-in-place-spec =
+    tie.close
+    (tie.spec
+    place-at-requires
+    slot-at-requires
+    path-for-requires
+    act-on-requires
+    put-slot-requires
+    channel-of-requires
+    returns)

@@ -1,0 +1,26 @@
+use borrow.Author.Tests.{lt-ltb, le-ltb}
+use borrow.Author.Needs.{needs}
+use Rattle.step.proofs.run_ready.Statement.{statement}
+use Rattle.step.proofs.run_ready.Tie as tie
+
+returns : tie.Need-returns
+returns c = let t = lt-ltb _ _ (c .if1 .taken) in (rw t, (rw t, rw t))
+
+run-steps-requires : tie.Need-run-steps-requires
+run-steps-requires c κs = search needs
+
+same-length : tie.Need-same-length
+same-length c = search needs
+
+same-length-2 : tie.Need-same-length-2
+same-length-2 c = search needs
+
+returns-2 : tie.Need-returns-2
+returns-2 c =
+    let f = le-ltb _ _ (c .before .before .before .before .before .before .before .if1 .left) in
+    let k = c .before .before .before .before .run-steps .ensures in
+    (rw f (k .0), (rw f (k .1 .0), rw f (k .1 .1)))
+
+pub run-ready-spec : {M : Type 1} → statement M
+run-ready-spec =
+    tie.close (tie.spec returns run-steps-requires same-length same-length-2 returns-2)

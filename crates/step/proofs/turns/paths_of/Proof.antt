@@ -1,0 +1,91 @@
+use mathlib.Core.Path.{_≡_, refl, _∙_}
+use native.Mathlib.Omega.{arith}
+use Prim.Native.Nat.{_-_, _≤_}
+use lib.ListN.{length, length-set}
+use Rattle.sound.specs.Tables.{requestAt}
+use Rattle.step.specs.Turns.{ArePaths}
+use Rattle.step.proofs.PathLaws.{path-more, path-none}
+use Rattle.step.proofs.turns.paths_of.Statement.{statement}
+use Rattle.step.proofs.turns.paths_of.Tie as tie
+
+abbrev Inv-loop : tie.InvT-loop
+Inv-loop setup direction space address left offset paths₀ level₀ paths level =
+    (level ≤ 16) × (length paths ≡ 16) × ArePaths setup (requestAt direction space address left offset) paths level
+
+abbrev μ-loop : tie.MeasureT-loop
+μ-loop setup direction space address left offset paths₀ level₀ paths level = 16 - level
+
+loop-holds : tie.Need-loop-holds Inv-loop μ-loop
+loop-holds c = (omega arith, refl, λ l n a. absurd (omega (arith, n)))
+
+mul-if1 : tie.Need-mul-if1 Inv-loop μ-loop
+mul-if1 c = omega arith
+
+element-copy-out-if1 : tie.Need-element-copy-out-if1 Inv-loop μ-loop
+element-copy-out-if1 c = omega arith
+
+add-level : tie.Need-add-level Inv-loop μ-loop
+add-level c = omega arith
+
+loop-less : tie.Need-loop-less Inv-loop μ-loop
+loop-less c = omega arith
+
+loop-again : tie.Need-loop-again Inv-loop μ-loop
+loop-again c =
+    let l = c .before .before .before .loop in
+    (omega arith, l .inv .1, path-none _ _ (l .paths) (l .level) (l .inv .2) (c .if1 .taken))
+
+slot-at-requires : tie.Need-slot-at-requires Inv-loop μ-loop
+slot-at-requires c κs = omega arith
+
+cast-path-of : tie.Need-cast-path-of Inv-loop μ-loop
+cast-path-of c = omega arith
+
+path-of-requires : tie.Need-path-of-requires Inv-loop μ-loop
+path-of-requires c κs = tt
+
+mul-paths : tie.Need-mul-paths Inv-loop μ-loop
+mul-paths c = omega arith
+
+array-set-from-paths : tie.Need-array-set-from-paths Inv-loop μ-loop
+array-set-from-paths c = omega arith
+
+add-level-2 : tie.Need-add-level-2 Inv-loop μ-loop
+add-level-2 c = omega arith
+
+loop-less-2 : tie.Need-loop-less-2 Inv-loop μ-loop
+loop-less-2 c = omega arith
+
+loop-again-2 : tie.Need-loop-again-2 Inv-loop μ-loop
+loop-again-2 c =
+    let l = c .before .before .before .before .before .loop in (
+      omega arith,
+      length-set (l .paths) (l .level) _ ∙ l .inv .1,
+      path-more _ _ (l .paths) (l .level) _ (omega (arith, l .inv .1)) (l .inv .2)
+          (rw (← c .before .slot-at .ensures) (c .path-of .ensures)),
+    )
+
+returns : tie.Need-returns Inv-loop μ-loop
+returns c = let e : c .before .loop .level ≡ 16 = omega arith in rw e at (c .before .loop .inv .2)
+
+pub paths-of-spec : {M : Type 1} → statement M
+paths-of-spec =
+    tie.close
+    (tie.spec
+    Inv-loop
+    μ-loop
+    loop-holds
+    mul-if1
+    element-copy-out-if1
+    add-level
+    loop-less
+    loop-again
+    slot-at-requires
+    cast-path-of
+    path-of-requires
+    mul-paths
+    array-set-from-paths
+    add-level-2
+    loop-less-2
+    loop-again-2
+    returns)

@@ -1,0 +1,199 @@
+use mathlib.Core.Path.{_≡_, refl, sym, ap, _∙_}
+use native.Mathlib.Omega.{arith}
+use borrow.Author.Tests.{ltb-true, not-true}
+use lib.ListN.{length}
+use lib.Dec.{ltb}
+use Rattle.basics.proofs.Tests.{and-left, and-right}
+use Rattle.frame.specs.declared.Setup.{Setup}
+use Rattle.channel.specs.Channel.{Shaped}
+use Rattle.step.specs.Run.{Out}
+use Rattle.step.specs.Turns.{runningOf, Lows}
+use Rattle.step.proofs.GoingLaws.{Going, go-on, turnable, turned-by, place-below, nearness, nearer, start-going, start-lows, finished, first-come}
+use Rattle.step.proofs.turns.run_steps.Statement.{statement}
+use Rattle.step.proofs.turns.run_steps.Tie as tie
+
+abbrev Inv-loop : tie.InvT-loop
+Inv-loop slave₀ master₀ budget inactive₀ direction₀ space₀ address₀ left₀ offset₀ paths base state₀ slave master inactive direction space
+    address left offset state =
+    (length slave ≡ length slave₀)
+    × (length master ≡ length master₀)
+    × Shaped (runningOf state₀ inactive₀ direction₀ space₀ address₀ left₀ offset₀ slave₀ master₀ .channel)
+    × Lows base (state .low) (runningOf state inactive direction space address left offset slave master .channel)
+    × ((setup : Setup)
+    → Going setup budget paths (runningOf state₀ inactive₀ direction₀ space₀ address₀ left₀ offset₀ slave₀ master₀)
+    (runningOf state₀ inactive₀ direction₀ space₀ address₀ left₀ offset₀ slave₀ master₀)
+    → Going setup budget paths (runningOf state₀ inactive₀ direction₀ space₀ address₀ left₀ offset₀ slave₀ master₀)
+    (runningOf state inactive direction space address left offset slave master))
+
+abbrev μ-loop : tie.MeasureT-loop
+μ-loop slave₀ master₀ budget inactive₀ direction₀ space₀ address₀ left₀ offset₀ paths base state₀ slave master inactive direction space
+    address left offset state =
+    nearness budget (state .full) (state .done)
+
+paths-of-requires : tie.Need-paths-of-requires Inv-loop μ-loop
+paths-of-requires c κs = tt
+
+lowest-requires : tie.Need-lowest-requires Inv-loop μ-loop
+lowest-requires c κs = tt
+
+loop-holds : tie.Need-loop-holds Inv-loop μ-loop
+loop-holds c =
+    let five = c .before .before .before .before .before in
+    let ten = five .before .before .before .before .before in
+    let fifteen = ten .before .before .before .before .before in
+    let s = fifteen .before in
+    let low = c .lowest .ensures in
+    (refl, refl, s .pre .1 .0, start-lows (s .args .setup) (s .args .channel) _ _ _ (s .pre .0) (low .0) (low .1), λ setup g. g)
+
+place-at-requires : tie.Need-place-at-requires Inv-loop μ-loop
+place-at-requires c κs = tt
+
+mul-path : tie.Need-mul-path Inv-loop μ-loop
+mul-path c =
+    let five = c .before .before .before .before .before in
+    let ten = five .before .before .before .before .before in
+    let fifteen = ten .before .before .before .before .before in
+    let twenty = fifteen .before .before .before .before .before in
+    let s = twenty .before .before in
+    let l = five .loop in
+    let first = start-going (s .args .setup) (s .args .budget) (five .before .before .before .paths-of .result) (s .args .channel)
+    (s .args .tally) (s .args .slave .now)
+    (s .args .master .now) (s .pre .0) (l .inv .2) (five .before .before .before .paths-of .ensures) in
+    let going = l .inv .4 (s .args .setup) first in
+    let more = ltb-true (l .state .done) (s .args .budget) (and-left _ _ (c .before .before .if1 .taken)) in
+    let open-yet = not-true (l .state .full) (and-right (ltb (l .state .done) (s .args .budget)) _ (c .before .before .if1 .taken)) in
+    omega (arith, place-below _ _ _ _ _ going open-yet more, c .place-at .ensures)
+
+array-copy-out-path : tie.Need-array-copy-out-path Inv-loop μ-loop
+array-copy-out-path c =
+    let five = c .before .before .before .before .before in
+    let ten = five .before .before .before .before .before in
+    let fifteen = ten .before .before .before .before .before in
+    let twenty = fifteen .before .before .before .before .before in
+    let s = twenty .before .before in
+    let l = five .loop in
+    let first = start-going (s .args .setup) (s .args .budget) (five .before .before .before .paths-of .result) (s .args .channel)
+    (s .args .tally) (s .args .slave .now)
+    (s .args .master .now) (s .pre .0) (l .inv .2) (five .before .before .before .paths-of .ensures) in
+    let going = l .inv .4 (s .args .setup) first in
+    let more = ltb-true (l .state .done) (s .args .budget) (and-left _ _ (c .before .before .if1 .taken)) in
+    let open-yet = not-true (l .state .full) (and-right (ltb (l .state .done) (s .args .budget)) _ (c .before .before .if1 .taken)) in
+    rw (c .place-at .ensures) (place-below _ _ _ _ _ going open-yet more)
+
+turn-requires : tie.Need-turn-requires Inv-loop μ-loop
+turn-requires c κs =
+    let five = c .before .before .before .before .before in
+    let ten = five .before .before .before .before .before in
+    let fifteen = ten .before .before .before .before .before in
+    let twenty = fifteen .before .before .before .before .before in
+    let twenty-five = twenty .before .before .before .before .before in
+    let thirty = twenty-five .before .before .before .before .before in
+    let s = thirty .before in
+    let l = ten .before .before .before .before .loop in
+    let first = start-going (s .args .setup) (s .args .budget) (fifteen .before .before .paths-of .result) (s .args .channel)
+    (s .args .tally) (s .args .slave .now)
+    (s .args .master .now) (s .pre .0) (l .inv .2) (fifteen .before .before .paths-of .ensures) in
+    let going = l .inv .4 (s .args .setup) first in
+    let more = ltb-true (l .state .done) (s .args .budget) (and-left _ _ (ten .before .if1 .taken)) in
+    let open-yet = not-true (l .state .full) (and-right (ltb (l .state .done) (s .args .budget)) _ (ten .before .if1 .taken)) in
+    rw (five .before .before .before .before .place-at .ensures) (turnable _ _ _ _ _ going open-yet more _ _ (s .pre .1 .1) (l .inv .3))
+
+loop-less : tie.Need-loop-less Inv-loop μ-loop
+loop-less c =
+    let five = c .before .before .before .before .before in
+    let ten = five .before .before .before .before .before in
+    let fifteen = ten .before .before .before .before .before in
+    let twenty = fifteen .before .before .before .before .before in
+    let twenty-five = twenty .before .before .before .before .before in
+    let thirty = twenty-five .before .before .before .before .before in
+    let thirty-five = thirty .before .before .before .before .before in
+    let s = thirty-five .before in
+    let l = fifteen .before .before .before .before .loop in
+    let first = start-going (s .args .setup) (s .args .budget) (twenty .before .before .paths-of .result) (s .args .channel)
+    (s .args .tally) (s .args .slave .now)
+    (s .args .master .now) (s .pre .0) (l .inv .2) (twenty .before .before .paths-of .ensures) in
+    let going = l .inv .4 (s .args .setup) first in
+    let more = ltb-true (l .state .done) (s .args .budget) (and-left _ _ (fifteen .before .if1 .taken)) in
+    let open-yet = not-true (l .state .full) (and-right (ltb (l .state .done) (s .args .budget)) _ (fifteen .before .if1 .taken)) in
+    let later = turned-by _ _ _ _ _ going open-yet more _ _ (ten .before .before .before .before .place-at .ensures)
+    (c .before .before .before .before .turn .ensures .0) in
+    nearer _ _ _ _ _ open-yet more (later .more more)
+
+loop-again : tie.Need-loop-again Inv-loop μ-loop
+loop-again c =
+    let five = c .before .before .before .before .before in
+    let ten = five .before .before .before .before .before in
+    let fifteen = ten .before .before .before .before .before in
+    let twenty = fifteen .before .before .before .before .before in
+    let twenty-five = twenty .before .before .before .before .before in
+    let thirty = twenty-five .before .before .before .before .before in
+    let thirty-five = thirty .before .before .before .before .before in
+    let s = thirty-five .before in
+    let l = fifteen .before .before .before .before .loop in
+    let more = ltb-true (l .state .done) (s .args .budget) (and-left _ _ (fifteen .before .if1 .taken)) in
+    let open-yet = not-true (l .state .full) (and-right (ltb (l .state .done) (s .args .budget)) _ (fifteen .before .if1 .taken)) in
+    let n = c .before .before .before .before .turn .kept .1 .1 .1 .1 .1 .1 .1 .1 .1 in (
+      n .0 ∙ l .inv .0,
+      n .1 .0 ∙ l .inv .1,
+      l .inv .2,
+      c .before .before .before .before .turn .ensures .1,
+      λ setup first.
+          let going = l .inv .4 setup first in
+          go-on setup _ _ _ _ _ going (turned-by setup _ _ _ _ going open-yet more _ _
+          (ten .before .before .before .before .place-at .ensures) (c .before .before .before .before .turn .ensures .0)),
+    )
+
+verdict-of-requires : tie.Need-verdict-of-requires Inv-loop μ-loop
+verdict-of-requires c κs = tt
+
+channel-of-requires : tie.Need-channel-of-requires Inv-loop μ-loop
+channel-of-requires c κs = tt
+
+same-length : tie.Need-same-length Inv-loop μ-loop
+same-length c =
+    let five = c .before .before .before .before .before in
+    five .before .before .loop .inv .0
+
+same-length-2 : tie.Need-same-length-2 Inv-loop μ-loop
+same-length-2 c =
+    let five = c .before .before .before .before .before in
+    five .before .before .loop .inv .1
+
+returns : tie.Need-returns Inv-loop μ-loop
+returns c =
+    let five = c .before .before .before .before .before in
+    let ten = five .before .before .before .before .before in
+    let fifteen = ten .before .before .before .before .before in
+    let twenty = fifteen .before .before .before .before .before in
+    let s = twenty .before .before .before .before in
+    let l = five .before .before .loop in
+    let first = start-going (s .args .setup) (s .args .budget) (ten .paths-of .result) (s .args .channel) (s .args .tally)
+    (s .args .slave .now)
+    (s .args .master .now) (s .pre .0) (l .inv .2) (ten .paths-of .ensures) in
+    let going = l .inv .4 (s .args .setup) first in
+    let e = sym (finished _ _ _ (c .before .before .before .before .if1 .left) (going .least)) ∙ going .same
+    ∙ first-come _ _ _ refl refl in (
+      rw (c .channel-of .ensures, c .before .verdict-of .ensures) (ap (λ (x : Out). x .result) e),
+      (ap (λ (x : Out). x .slave) e, ap (λ (x : Out). x .master) e),
+    )
+
+pub run-steps-spec : {M : Type 1} → statement M
+run-steps-spec =
+    tie.close
+    (tie.spec
+    Inv-loop
+    μ-loop
+    paths-of-requires
+    lowest-requires
+    loop-holds
+    place-at-requires
+    mul-path
+    array-copy-out-path
+    turn-requires
+    loop-less
+    loop-again
+    verdict-of-requires
+    channel-of-requires
+    same-length
+    same-length-2
+    returns)

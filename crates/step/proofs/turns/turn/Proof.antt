@@ -1,0 +1,158 @@
+use lib.ListN.{getD}
+use Rattle.channel.specs.declared.Request.{Request}
+use mathlib.Core.Path.{_≡_, refl, sym, ap, _∙_}
+use borrow.Author.Tests.{ne-eqb, ltb-false}
+use Prim.Native.Nat.{ℕ, _+_}
+use lib.Dec.{ltb}
+use Rattle.step.specs.Turns.{runningOf}
+use Rattle.step.proofs.PutLaws.{turn-full, turn-grant, turn-rest, turn-cycles, lows-grant, lows-rest, lows-cycles}
+use borrow.Author.Needs.{needs}
+use Rattle.step.proofs.turns.turn.Statement.{statement}
+use Rattle.step.proofs.turns.turn.Tie as tie
+
+enum-told : tie.Need-enum-told
+enum-told c = search needs
+
+arbitration-time-requires : tie.Need-arbitration-time-requires
+arbitration-time-requires c κs = search needs
+
+is-full-requires : tie.Need-is-full-requires
+is-full-requires c κs = search needs
+
+returns : tie.Need-returns
+returns c =
+    let five = c .before .before .before .before .before in
+    let a = five .before .before .before .args in
+    let full = (ap (λ (x : ℕ). ltb 4000000000 (five .before .before .before .args .state .standing .clock + x))
+    (sym (c .before .before .arbitration-time .ensures)) ∙ sym (c .before .is-full .ensures) ∙ c .if1 .taken) in (
+      turn-full (a .path) (a .budget) (a .state) (a .inactive .now) (a .direction .now) (a .space .now) (a .address .now) (a .left .now)
+          (a .offset .now) (a .slave .now) (a .master .now) (c .before .before .before .enum-told .given .1)
+          (a .state .low) full,
+      five .before .before .before .pre .lows,
+    )
+
+choose-requires : tie.Need-choose-requires
+choose-requires c κs =
+    let five = c .before .before .before .before .before in
+    let ten = five .before .before .before .before .before in
+    let x = ten .pre .lows in
+    record { most = x .most; small = x .small; none = x .none; clear = x .clear }
+
+granted-requires : tie.Need-granted-requires
+granted-requires c κs =
+    let five = c .before .before .before .before .before in
+    let ten = five .before .before .before .before .before in
+    ltb-false 4000000000 _ (ap (λ (x : ℕ). ltb 4000000000 (ten .before .args .state .standing .clock + x))
+    (sym (five .arbitration-time .ensures)) ∙ sym (c .before .before .before .before .is-full .ensures)
+    ∙ c .before .before .before .if1 .left)
+
+stepped-on-requires : tie.Need-stepped-on-requires
+stepped-on-requires c κs = search needs
+
+enum-known-phase : tie.Need-enum-known-phase
+enum-known-phase c = search needs
+
+cast-at : tie.Need-cast-at
+cast-at c = search needs
+
+slot-at-requires : tie.Need-slot-at-requires
+slot-at-requires c κs =
+    let five = c .before .before .before .before .before in
+    let ten = five .before .before .before .before .before in
+    ten .before .pre .owned _ (five .before .phase .given .1) .small
+
+rest-requires : tie.Need-rest-requires
+rest-requires c κs = search needs
+
+stepped-on-requires-2 : tie.Need-stepped-on-requires-2
+stepped-on-requires-2 c κs = search needs
+
+returns-2 : tie.Need-returns-2
+returns-2 c =
+    let five = c .before .before .before .before .before in
+    let ten = five .before .before .before .before .before in
+    let fifteen = ten .before .before .before .before .before in
+    let a = fifteen .before .args in
+    let p = ten .before .phase .given .1 in
+    let none = sym (ap (λ (q : Request). q .left) (c .before .before .before .before .slot-at .ensures))
+    ∙ c .before .before .if2 .taken in (
+      turn-rest (a .path) (a .budget) (a .state) (a .inactive .now) (a .direction .now) (a .space .now) (a .address .now) (a .left .now)
+          (a .offset .now) (a .slave .now) (a .master .now) _ p _ _ _ none (c .before .rest .ensures) (c .stepped-on2 .ensures),
+      lows-rest _ _ _ (fifteen .before .pre .lows) _ _ (a .state .standing) _ _ refl (c .before .rest .ensures) (c .stepped-on2 .ensures),
+    )
+
+run-cycles-requires : tie.Need-run-cycles-requires
+run-cycles-requires c κs =
+    let five = c .before .before .before .before .before in
+    let ten = five .before .before .before .before .before in
+    let fifteen = ten .before .before .before .before .before in
+    let twenty = fifteen .before .before .before .before .before in
+    let t = twenty .before .before .pre in
+    let p = fifteen .before .before .phase .given .1 in
+    let o = t .owned _ p in
+    let q = ten .slot-at .ensures in
+    let n = ne-eqb _ 0 (λ z. five .before .before .before .if2 .left (ap (λ (x : Request). x .left) q ∙ z)) in
+    (o .small, (p, (o .active, (q, (rw q (o .roomy n), (t .clock, t .budgeted))))))
+
+returns-3 : tie.Need-returns-3
+returns-3 c =
+    let five = c .before .before .before .before .before in
+    let ten = five .before .before .before .before .before in
+    let a = ten .before .before .before .args in
+    let i = c .before .before .choose .ensures in
+    let room = (ap (λ (x : ℕ). ltb 4000000000 (ten .before .before .before .args .state .standing .clock + x))
+    (sym (five .before .before .arbitration-time .ensures)) ∙ sym (five .before .is-full .ensures) ∙ five .if1 .left) in (
+      turn-grant (a .path) (a .budget) (a .state) (a .inactive .now) (a .direction .now) (a .space .now) (a .address .now) (a .left .now)
+          (a .offset .now) (a .slave .now) (a .master .now) (five .before .before .before .enum-told .given .1) _ _ _ _ _ room i
+          (c .before .granted .ensures) (c .stepped-on .ensures),
+      lows-grant _ _ _ (ten .before .before .before .pre .lows) _ _ (a .state .standing) _ _ _ i (c .before .granted .ensures)
+          (c .stepped-on .ensures),
+    )
+
+same-length : tie.Need-same-length
+same-length c = search needs
+
+same-length-2 : tie.Need-same-length-2
+same-length-2 c = search needs
+
+returns-4 : tie.Need-returns-4
+returns-4 c =
+    let five = c .before .before .before .before .before in
+    let ten = five .before .before .before .before .before in
+    let fifteen = ten .before .before .before .before .before in
+    let twenty = fifteen .before .before .before .before .before in
+    let twenty-five = twenty .before .before .before .before .before in
+    let a = twenty-five .before .before .args in
+    let p = twenty .before .before .phase .given .1 in
+    let k = c .before .before .before .before .run-cycles .ensures in
+    let q = fifteen .slot-at .ensures in
+    let some : getD (a .left .now) _ 0 ≡ 0 → ⊥ = λ z. ten .before .before .before .if2 .left (ap (λ (x : Request). x .left) q ∙ z) in (
+      turn-cycles (a .path) (a .budget) (a .state) (a .inactive .now) (a .direction .now) (a .space .now) (a .address .now) (a .left .now)
+          (a .offset .now) (a .slave .now) (a .master .now) _ p _ some (k .0),
+      lows-cycles (a .path) (a .budget) _ _ _ (runningOf (a .state) (a .inactive .now) (a .direction .now) (a .space .now)
+          (a .address .now) (a .left .now) (a .offset .now) (a .slave .now) (a .master .now))
+          (twenty-five .before .before .pre .lows) p (rw (ne-eqb _ 0 some)) _ _ (k .1) (k .0),
+    )
+
+pub turn-spec : {M : Type 1} → statement M
+turn-spec =
+    tie.close
+    (tie.spec
+    enum-told
+    arbitration-time-requires
+    is-full-requires
+    returns
+    choose-requires
+    granted-requires
+    stepped-on-requires
+    enum-known-phase
+    cast-at
+    slot-at-requires
+    rest-requires
+    stepped-on-requires-2
+    returns-2
+    run-cycles-requires
+    returns-3
+    same-length
+    same-length-2
+    returns-4)

@@ -1,0 +1,244 @@
+-- The step as the program takes it: in place, and without the line rule where that has nothing to do. None of this need be believed: the promises speak of
+-- `decisionOf`, `stepOf` and `runOf` alone, and proofs/MachineLaws shows that this is the same.
+use Prim.Native.Nat.{ℕ, zero, suc, _+_, _-_, _%_, _≤_, _<_}
+use mathlib.Core.Path.{_≡_}
+use mathlib.Core.Bool.{Bool, false, cond, not, _&&_, _||_}
+use mathlib.Core.List.{List}
+use lib.ListN.{set, replicate}
+use lib.Dec.{eqb, ltb}
+use Rattle.refusal.specs.Refusal.{refusalBy}
+use Rattle.refusal.specs.declared.Refusal.{Refusal}
+use Rattle.cycle.specs.Cycle.{transferTime, masterLane, slaveLane}
+use Rattle.frame.specs.declared.Setup.{Setup}
+use Rattle.channel.specs.declared.Phase.{Phase}
+use Rattle.channel.specs.declared.Phase.the-variants.{Arbitrating, Granted}
+use Rattle.channel.specs.declared.Asked.{Asked}
+use Rattle.channel.specs.declared.Asked.the-variants.{Never, At}
+use Rattle.channel.specs.declared.Channel.{Channel}
+use Rattle.channel.specs.declared.Request.{Request}
+use Rattle.channel.specs.Channel.{hasRequest, placeIn, withRequest, changed}
+use Rattle.channel.specs.Line.{waits, lineActive, winner}
+use Rattle.sound.specs.Sound.{clockLimit}
+use Rattle.act.specs.declared.Path.{Path}
+use Rattle.act.specs.declared.Hold.the-variants.{After}
+use Rattle.act.specs.declared.Ending.{Ending}
+use Rattle.act.specs.declared.Entry.the-variants.{Idle, Grant, Cycle, Release}
+use Rattle.act.specs.Cycle.{pathOf, cycleBytes, cycleBefore, cycleOf, isLeaving, endingOf, isKept, isMarked}
+use Rattle.act.specs.Turn.{arbitrationTime}
+use Rattle.tally.specs.declared.Tally.{Tally}
+use Rattle.tally.specs.Tally.{addGrant, addCycle, addRelease}
+use Rattle.step.specs.declared.StepAnswer.the-variants.{Done, Refused}
+use Rattle.step.specs.declared.Stepped.{Stepped}
+use Rattle.step.specs.declared.Plan.{Plan}
+use Rattle.step.specs.declared.Decision.{Decision}
+use Rattle.step.specs.declared.cycles.After.{After as Left}
+use Rattle.step.specs.declared.acts.Standing.{Standing}
+use Rattle.step.specs.declared.acts.Acted.{Acted}
+use Rattle.step.specs.declared.acts.Decided.{Decided}
+use Rattle.step.specs.declared.acts.Chosen.{Chosen}
+use Rattle.step.specs.Step.{Way, advancedBy, tallied, noCarry, carryOf, carryBy}
+
+-- the address lies inside a transfer
+abbrev pub isInside : ℕ → ℕ → Bool
+isInside width address = not (eqb (address % width) 0)
+
+-- the time of the transfer that holds the next byte of what is left
+unfoldable pub nextTime : Path → Request → ℕ
+nextTime path rest = transferTime (path .width) (path .port) (path .time) (rest .address) (rest .left)
+
+-- whether an owner leaves goes by what its cycle has left
+unfoldable pub leavesAt : Path → Asked → ℕ → Request → Bool
+leavesAt path asked clock rest = isLeaving path asked clock (cycleBefore path rest 0 rest)
+
+-- what a cycle leaves, and how it ends
+unfoldable pub afterOf : Path → Asked → ℕ → Request → Left
+afterOf path asked clock q = record { rest = cycleOf path q .rest; ending = endingOf path asked clock (cycleOf path q) }
+
+-- some of the k numbers from i on satisfies f
+unfoldable pub anyFrom : (ℕ → Bool) → ℕ → ℕ → Bool
+anyFrom f i zero = false
+anyFrom f i (suc k) = f i || anyFrom f (suc i) k
+
+-- some level from this one on waits; some other than the owner has a request
+unfoldable pub waitsFrom : List ℕ → List Bool → ℕ → Bool
+waitsFrom left inactive from = anyFrom (waits left inactive) from (16 - from)
+
+unfoldable pub asksBeside : List ℕ → ℕ → ℕ → Bool
+asksBeside left owner l = hasRequest left l && not (eqb l owner)
+
+unfoldable pub othersFrom : List ℕ → ℕ → ℕ → Bool
+othersFrom left from owner = anyFrom (asksBeside left owner) from (16 - from)
+
+-- nobody below a level has a request; nobody below a level waits
+abbrev pub NoneAsk : List ℕ → ℕ → Type 0
+NoneAsk left base = (l : ℕ) → l < base → hasRequest left l ≡ false
+
+abbrev pub NoneWait : List ℕ → List Bool → ℕ → Type 0
+NoneWait left inactive low = (l : ℕ) → l < low → waits left inactive l ≡ false
+
+-- where a search for the winner may begin
+pub record Search (left : List ℕ) (inactive : List Bool) (base low : ℕ) : Type 0 where
+  pub most : base ≤ 15
+  pub small : low ≤ 16
+  pub none : NoneAsk left base
+  pub clear : NoneWait left inactive low
+
+-- the marks after line rule 1
+unfoldable pub marksLeft : List ℕ → List Bool → Phase → List Bool
+marksLeft left inactive phase = cond (lineActive left inactive phase) inactive (replicate 16 false)
+
+abbrev pub grantMarks : List ℕ → List Bool → List Bool
+grantMarks left inactive = marksLeft left inactive (Granted (winner left inactive))
+
+-- the winner, the marks and the line after its grant, and where the next search may begin
+pub record IsChosen (left : List ℕ) (before after : List Bool) (base : ℕ) (c : Chosen) : Type 0 where
+  pub won : c .winner ≡ winner left before
+  pub marks : after ≡ grantMarks left before
+  pub active : c .active ≡ lineActive left after (Granted (winner left before))
+  pub low : c .low ≤ winner left before
+  pub clear : NoneWait left after (c .low)
+
+-- a channel as the program keeps it: what stands by value, and the arrays
+abbrev pub channelOf : Standing → List Bool → List ℕ → List ℕ → List ℕ → List ℕ → List ℕ → Channel
+channelOf s inactive direction space address left offset =
+    record {
+      phase = s .phase;
+      asked = s .asked;
+      clock = s .clock;
+      inactive = inactive;
+      direction = direction;
+      space = space;
+      address = address;
+      left = left;
+      offset = offset;
+    }
+
+abbrev pub standingOf : Channel → Tally → Standing
+standingOf ch t = record { phase = ch .phase; asked = ch .asked; clock = ch .clock; tally = t }
+
+-- refusal 6
+unfoldable pub fullActed : Standing → Acted
+fullActed s = record { standing = s; answer = Refused (refusalBy 6) }
+
+-- the grant, and the line rule's asked time
+unfoldable pub grantedBy : Standing → ℕ → Bool → Acted
+grantedBy s w active =
+    record {
+      standing =
+          record {
+            phase = Granted w;
+            asked = cond active (At (s .clock + arbitrationTime)) Never;
+            clock = s .clock + arbitrationTime;
+            tally = addGrant (s .tally);
+          };
+      answer = Done (Grant (s .clock + arbitrationTime) w);
+    }
+
+-- an owner without a request leaves where it is asked, and idles otherwise
+abbrev pub restActed : Asked → Standing → ℕ → Acted
+restActed Never s o = record { standing = s; answer = Done (Idle (s .clock)) }
+restActed (At t) s o =
+    record {
+      standing = record { phase = Arbitrating; asked = Never; clock = s .clock; tally = addRelease (s .tally) (After (s .clock - t)) };
+      answer = Done (Release (s .clock) o (After (s .clock - t)));
+    }
+
+-- what stands after a cycle with this ending
+unfoldable pub standingAfter : Standing → ℕ → Tally → Ending → Standing
+standingAfter s clock t ending =
+    record {
+      phase = cond (isKept ending) (s .phase) Arbitrating;
+      asked = cond (isKept ending) (s .asked) Never;
+      clock = clock;
+      tally = t;
+    }
+
+unfoldable pub cycleActed : Path → Standing → ℕ → Request → Ending → Acted
+cycleActed path s o q ending =
+    record {
+      standing = standingAfter s (s .clock + path .time) (addCycle (s .tally) (cycleBytes path q) ending) ending;
+      answer =
+          Done
+          (Cycle
+          (record {
+            clock = s .clock + path .time;
+            level = o;
+            address = q .address;
+            bytes = cycleBytes path q;
+            direction = q .direction;
+            master = masterLane (path .width) (q .address);
+            slave = slaveLane (path .port) (q .address);
+            ending = ending;
+          }));
+    }
+
+-- a step that moves nothing and leaves the owner's slot
+abbrev pub stays : Acted → Request → Decided
+stays a q = record { acted = a; slot = q; carry = noCarry }
+
+-- one cycle
+abbrev pub endingBy : Path → Standing → Request → Ending
+endingBy path s q = endingOf path (s .asked) (s .clock + path .time) (cycleOf path q)
+
+unfoldable pub cycleDecided : Path → Standing → ℕ → Request → Decided
+cycleDecided path s o q =
+    record { acted = cycleActed path s o q (endingBy path s q); slot = cycleOf path q .rest; carry = carryOf path q }
+
+unfoldable pub cycleMarks : Path → Standing → ℕ → Request → List Bool → List Bool
+cycleMarks path s o q inactive = set inactive o (isMarked (endingBy path s q))
+
+-- the step, by the phase: what it decides, and the marks after it
+abbrev pub decidedBy : Path → Standing → Request → List ℕ → List Bool → Phase → Decided
+decidedBy path s q left inactive Arbitrating =
+    stays
+    (cond
+    (ltb clockLimit (s .clock + arbitrationTime))
+    (fullActed s)
+    (grantedBy s (winner left inactive) (lineActive left (grantMarks left inactive) (Granted (winner left inactive)))))
+    q
+decidedBy path s q left inactive (Granted o) =
+    cond
+    (eqb (q .left) 0)
+    (stays (restActed (s .asked) s o) q)
+    (cond (ltb clockLimit (s .clock + path .time)) (stays (fullActed s) q) (cycleDecided path s o q))
+
+abbrev pub marksBy : Path → Standing → Request → List ℕ → List Bool → Phase → List Bool
+marksBy path s q left inactive Arbitrating = cond (ltb clockLimit (s .clock + arbitrationTime)) inactive (grantMarks left inactive)
+marksBy path s q left inactive (Granted o) =
+    cond (eqb (q .left) 0) inactive (cond (ltb clockLimit (s .clock + path .time)) inactive (cycleMarks path s o q inactive))
+
+unfoldable pub decidedOf : Path → Standing → Request → List ℕ → List Bool → Decided
+decidedOf path s q left inactive = decidedBy path s q left inactive (s .phase)
+
+unfoldable pub decidedMarks : Path → Standing → Request → List ℕ → List Bool → List Bool
+decidedMarks path s q left inactive = marksBy path s q left inactive (s .phase)
+
+-- what it relies on
+pub record Actable (path : Path) (s : Standing) (q : Request) : Type 0 where
+  pub small : (o : ℕ) → s .phase ≡ Granted o → o < 16
+  pub way : (o : ℕ) → s .phase ≡ Granted o → eqb (q .left) 0 ≡ false → Way path q
+
+-- the path of an owner's request; without one there is none
+abbrev pub noPath : Path
+noPath = record { width = 0; options = 0; port = 0; time = 0; base = 0; allowed = 0; start = 0 }
+
+abbrev pub pathFor : Setup → ℕ → Request → Path
+pathFor setup o q = cond (eqb (q .left) 0) noPath (pathOf setup o q)
+
+-- a decision, by the plan
+abbrev pub decisionBy : Setup → Channel → Tally → Plan → Decision
+decisionBy setup ch t p = record { stepped = tallied t (advancedBy setup ch p); carry = carryBy setup ch p }
+
+abbrev pub refusedDecision : Channel → Tally → Refusal → Decision
+refusedDecision ch t why = record { stepped = record { channel = ch; tally = t; answer = Refused why }; carry = noCarry }
+
+-- the channel after a decided step
+abbrev pub channelBy : Channel → Decided → List Bool → Channel
+channelBy ch d marks =
+    withRequest
+    (changed ch (d .acted .standing .phase) (d .acted .standing .asked) (d .acted .standing .clock) marks)
+    (placeIn (ch .phase))
+    (d .slot)
+
+abbrev pub steppedBy : Channel → Decided → List Bool → Stepped
+steppedBy ch d marks = record { channel = channelBy ch d marks; tally = d .acted .standing .tally; answer = d .acted .answer }

@@ -1,0 +1,204 @@
+-- How a run goes on in turns: a grant, a release or an idle step, or all cycles of one owner. None of this need be believed: the promise of `run` speaks of
+-- `runOf` alone, and proofs/TurnLaws shows that a turn takes the steps of `runFrom`.
+use Prim.Native.Nat.{ℕ, zero, suc, _+_, _-_, _≤_, _<_}
+use mathlib.Core.Path.{_≡_}
+use mathlib.Core.Bool.{Bool, true, false, cond}
+use mathlib.Core.List.{List}
+use lib.ListN.{length, getD}
+use lib.Dec.{eqb, ltb}
+use Rattle.refusal.specs.Refusal.{refusalBy}
+use Rattle.refusal.specs.declared.Verdict.{Verdict}
+use Rattle.refusal.specs.declared.Verdict.the-variants.{Accepted, Refused}
+use Rattle.frame.specs.declared.Setup.{Setup}
+use Rattle.channel.specs.declared.Phase.{Phase}
+use Rattle.channel.specs.declared.Phase.the-variants.{Arbitrating, Granted}
+use Rattle.channel.specs.declared.Asked.{Asked}
+use Rattle.channel.specs.declared.Channel.{Channel}
+use Rattle.channel.specs.declared.Request.{Request}
+use Rattle.channel.specs.Channel.{ownerOf, placeIn, requestOf, withRequest}
+use Rattle.channel.specs.Line.{isInactive}
+use Rattle.sound.specs.Sound.{clockLimit}
+use Rattle.act.specs.declared.Path.{Path}
+use Rattle.act.specs.declared.Ending.the-variants.{Kept}
+use Rattle.act.specs.Cycle.{pathOf, cycleBytes, cycleOf, endingOf, isKept, clocked, endedBy}
+use Rattle.tally.specs.declared.Tally.{Tally}
+use Rattle.tally.specs.Tally.{addCycle}
+use Rattle.step.specs.declared.StepAnswer.{StepAnswer}
+use Rattle.step.specs.declared.StepAnswer.the-variants.{Done, Refused as NotDone}
+use Rattle.step.specs.declared.acts.Acted.{Acted}
+use Rattle.step.specs.declared.acts.Decided.{Decided}
+use Rattle.step.specs.declared.turns.State.{State}
+use Rattle.step.specs.declared.turns.Tenure.{Tenure}
+use Rattle.step.specs.Step.{Roomy, carryOf, movedSlave, movedMaster}
+use Rattle.step.specs.Run.{World, Out, world, ended, runFrom}
+use Rattle.step.specs.Machine.{NoneAsk, NoneWait, noPath, channelOf, channelBy, standingOf, decidedOf, decidedMarks}
+
+-- all that a run changes: the channel, the tally, the stores, the steps done, and whether the next step would pass the clock's limit
+pub record Running : Type 0 where
+  pub channel : Channel
+  pub tally : Tally
+  pub done : ℕ
+  pub full : Bool
+  pub slave : List ℕ
+  pub master : List ℕ
+
+-- as the program keeps it: the state by value, the channel's arrays, and the stores
+abbrev pub runningOf : State → List Bool → List ℕ → List ℕ → List ℕ → List ℕ → List ℕ → List ℕ → List ℕ → Running
+runningOf state inactive direction space address left offset slave master =
+    record {
+      channel = channelOf (state .standing) inactive direction space address left offset;
+      tally = state .standing .tally;
+      done = state .done;
+      full = state .full;
+      slave = slave;
+      master = master;
+    }
+
+-- a step as it was decided
+abbrev pub steps : StepAnswer → ℕ → ℕ
+steps (Done entry) done = done + 1
+steps (NotDone why) done = done
+
+abbrev pub stops : StepAnswer → Bool
+stops (Done entry) = false
+stops (NotDone why) = true
+
+abbrev pub runBy : Running → Decided → List Bool → Running
+runBy w d marks =
+    record {
+      channel = channelBy (w .channel) d marks;
+      tally = d .acted .standing .tally;
+      done = steps (d .acted .answer) (w .done);
+      full = stops (d .acted .answer);
+      slave = movedSlave (d .carry) (w .slave) (w .master);
+      master = movedMaster (d .carry) (w .slave) (w .master);
+    }
+
+abbrev pub decidedIn : Path → Channel → Tally → Decided
+decidedIn path ch t = decidedOf path (standingOf ch t) (requestOf ch (placeIn (ch .phase))) (ch .left) (ch .inactive)
+
+abbrev pub marksIn : Path → Channel → Tally → List Bool
+marksIn path ch t = decidedMarks path (standingOf ch t) (requestOf ch (placeIn (ch .phase))) (ch .left) (ch .inactive)
+
+unfoldable pub stepRun : Path → Running → Running
+stepRun path w = runBy w (decidedIn path (w .channel) (w .tally)) (marksIn path (w .channel) (w .tally))
+
+-- one cycle more of an owner
+unfoldable pub cycled : Path → Asked → Tenure → Tenure
+cycled path asked t =
+    record {
+      clock = t .clock + path .time;
+      request = cycleOf path (t .request) .rest;
+      tally =
+          addCycle (t .tally) (cycleBytes path (t .request)) (endingOf path asked (t .clock + path .time) (cycleOf path (t .request)));
+      done = t .done + 1;
+      ending = endingOf path asked (t .clock + path .time) (cycleOf path (t .request));
+      full = false;
+    }
+
+unfoldable pub filled : Tenure → Tenure
+filled t = record { clock = t .clock; request = t .request; tally = t .tally; done = t .done; ending = Kept; full = true }
+
+-- an owner's cycles, and the stores after them
+pub record Held : Type 0 where
+  pub tenure : Tenure
+  pub slave : List ℕ
+  pub master : List ℕ
+
+abbrev pub heldOf : Tenure → List ℕ → List ℕ → Held
+heldOf t slave master = record { tenure = t; slave = slave; master = master }
+
+-- at most k of them: until the owner releases the channel, the next one would pass the clock's limit, or k are done
+unfoldable pub held : Path → Asked → ℕ → Tenure → List ℕ → List ℕ → Held
+held path asked zero t slave master = heldOf t slave master
+held path asked (suc k) t slave master =
+    cond
+    (ltb clockLimit (t .clock + path .time))
+    (heldOf (filled t) slave master)
+    (cond
+    (isKept (cycled path asked t .ending))
+    (held path asked k (cycled path asked t) (movedSlave (carryOf path (t .request)) slave master)
+    (movedMaster (carryOf path (t .request)) slave master))
+    (heldOf (cycled path asked t) (movedSlave (carryOf path (t .request)) slave master)
+    (movedMaster (carryOf path (t .request)) slave master)))
+
+-- the owner's request at the start of its cycles, and what it all comes to at their end
+abbrev pub tenureOf : Running → ℕ → Tenure
+tenureOf w o =
+    record {
+      clock = w .channel .clock;
+      request = requestOf (w .channel) o;
+      tally = w .tally;
+      done = w .done;
+      ending = Kept;
+      full = false;
+    }
+
+abbrev pub heldChannel : Channel → ℕ → Tenure → Channel
+heldChannel ch o t = endedBy (t .ending) (withRequest (clocked ch (t .clock)) o (t .request)) o
+
+abbrev pub afterHeld : Channel → ℕ → Held → Running
+afterHeld ch o h =
+    record {
+      channel = heldChannel ch o (h .tenure);
+      tally = h .tenure .tally;
+      done = h .tenure .done;
+      full = h .tenure .full;
+      slave = h .slave;
+      master = h .master;
+    }
+
+abbrev pub cyclesRun : Path → ℕ → ℕ → Running → Running
+cyclesRun path budget o w =
+    afterHeld (w .channel) o (held path (w .channel .asked) (budget - w .done) (tenureOf w o) (w .slave) (w .master))
+
+-- one step more
+abbrev pub onward : Acted → ℕ → ℕ → State
+onward a done low = record { standing = a .standing; done = done + 1; full = false; low = low }
+
+-- one turn
+abbrev pub turnBy : Path → ℕ → Running → Phase → Running
+turnBy path budget w Arbitrating = stepRun path w
+turnBy path budget w (Granted o) = cond (eqb (getD (w .channel .left) o 0) 0) (stepRun path w) (cyclesRun path budget o w)
+
+unfoldable pub turnOf : Path → ℕ → Running → Running
+turnOf path budget w = turnBy path budget w (w .channel .phase)
+
+abbrev pub verdictIf : Bool → Verdict
+verdictIf full = cond full (Refused (refusalBy 6)) Accepted
+
+-- what is still to come of a run
+abbrev pub worldOf : Running → World
+worldOf w = world (w .channel) (w .tally) (w .slave) (w .master)
+
+unfoldable pub toCome : Setup → ℕ → Running → Out
+toCome setup budget w =
+    cond (w .full) (ended (Refused (refusalBy 6)) (w .done) (worldOf w)) (runFrom setup (budget - w .done) (w .done) (worldOf w))
+
+-- the paths of the open requests of the levels below n
+abbrev pub ArePaths : Setup → (ℕ → Request) → List Path → ℕ → Type 0
+ArePaths setup request paths n = (l : ℕ) → l < n → eqb (request l .left) 0 ≡ false → getD paths l noPath ≡ pathOf setup l (request l)
+
+-- the levels below `base` have no request, those below `low` don't wait, and the owner is none of them
+pub record Lows (base low : ℕ) (ch : Channel) : Type 0 where
+  pub most : base ≤ 15
+  pub small : low ≤ 16
+  pub none : NoneAsk (ch .left) base
+  pub clear : NoneWait (ch .left) (ch .inactive) low
+  pub owner : low ≤ ownerOf (ch .phase)
+
+-- what an owner's turn relies on
+pub record Owned (path : Path) (w : Running) (o : ℕ) : Type 0 where
+  pub small : o < 16
+  pub active : isInactive (w .channel .inactive) o ≡ false
+  pub roomy : eqb (getD (w .channel .left) o 0) 0 ≡ false
+      → Roomy path (requestOf (w .channel) o) (length (w .slave)) (length (w .master))
+
+-- what a turn relies on
+pub record Turnable (path : Path) (base low budget : ℕ) (w : Running) : Type 0 where
+  pub clock : w .channel .clock ≤ 4000000000
+  pub budgeted : budget ≤ 65535
+  pub more : w .done < budget
+  pub going : w .full ≡ false
+  pub lows : Lows base low (w .channel)
+  pub owned : (o : ℕ) → w .channel .phase ≡ Granted o → Owned path w o

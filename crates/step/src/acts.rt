@@ -1,0 +1,413 @@
+// What a step does on the channel's arrays (document 01, "One step"): the search for the winner, the grant and the line rule
+// after it, the release without a request, the idle step, and the owner's cycle. After a cycle and after a release the line
+// rule has nothing to do.
+use crate::Carry;
+use crate::StepAnswer;
+use crate::cycles::after_cycle;
+use crate::cycles::bytes_of;
+use crate::cycles::carry_of;
+use act::CycleEntry;
+use act::Ending;
+use act::Entry;
+use act::Hold;
+use act::Path;
+use channel::Asked;
+use channel::Channel;
+use channel::Phase;
+use channel::Request;
+use refusal::Refusal;
+use tally::Tally;
+ghost use mathlib.Core.Path.{_≡_};
+ghost use Prim.Native.Nat.{_+_, _≤_, _<_};
+ghost use lib.ListN.{set};
+ghost use lib.Dec.{ltb};
+ghost use Rattle.channel.specs.Channel.{placeIn};
+ghost use Rattle.channel.specs.Line.{winner};
+ghost use Rattle.sound.specs.Tables.{requestAt};
+ghost use Rattle.act.specs.Cycle.{cycleBytes};
+ghost use Rattle.act.specs.Turn.{arbitrationTime};
+ghost use Rattle.step.specs.Step.{Way};
+ghost use Rattle.step.specs.Machine.{waitsFrom, othersFrom, NoneWait, Search, IsChosen, channelOf};
+ghost use Rattle.step.specs.Machine.{fullActed, grantedBy, restActed, standingAfter, stays, cycleActed, cycleDecided, cycleMarks};
+ghost use Rattle.step.specs.Machine.{Actable, decidedOf, decidedMarks};
+
+// What a step changes beside the channel's arrays and the stores.
+pub(crate) struct Standing {
+    pub phase: Phase,
+    pub asked: Asked,
+    pub clock: u32,
+    pub tally: Tally,
+}
+
+// The same after a step, and its answer.
+pub(crate) struct Acted {
+    pub standing: Standing,
+    pub answer: StepAnswer,
+}
+
+// A step but for the marks, which it changes in place: the owner's slot after it, and what it moves.
+pub(crate) struct Decided {
+    pub acted: Acted,
+    pub slot: Request,
+    pub carry: Carry,
+}
+
+// Who wins an arbitration, whether the line is active after the grant, and a level below which nobody waits then.
+pub(crate) struct Chosen {
+    pub winner: u8,
+    pub active: bool,
+    pub low: u8,
+}
+
+// Where the owner stands in the arrays; while arbitrating the first place, which nobody then looks at.
+pub(crate) fn place_at(standing: Standing) -> usize
+    ensures { λ r. ⌜ r ≡ placeIn (standing .phase) ⌝ }
+{
+    let phase = standing.phase;
+    match phase {
+        Phase::Arbitrating => 0,
+        Phase::Granted(owner) => owner as usize,
+    }
+}
+
+// What is left of a level's request, and laying it back.
+pub(crate) fn slot_at<'a>(
+    direction: &'a [u32; 16],
+    space: &'a [u32; 16],
+    address: &'a [u32; 16],
+    left: &'a [u32; 16],
+    offset: &'a [u32; 16],
+    at: usize,
+) -> Request
+    requires { ⌜ at < 16 ⌝ }
+    ensures { λ r. ⌜ r ≡ requestAt (now (direction .entry)) (now (space .entry)) (now (address .entry)) (now (left .entry)) (now (offset .entry)) at ⌝ }
+{
+    Request {
+        direction: direction[at],
+        space: space[at],
+        address: address[at],
+        left: left[at],
+        offset: offset[at],
+    }
+}
+
+pub(crate) fn put_slot(
+    direction: &mut [u32; 16],
+    space: &mut [u32; 16],
+    address: &mut [u32; 16],
+    left: &mut [u32; 16],
+    offset: &mut [u32; 16],
+    at: usize,
+    slot: Request,
+)
+    requires { ⌜ at < 16 ⌝ }
+    ensures { λ _. ⌜ now (direction .exit) ≡ set (now (direction .entry)) at (slot .direction) ⌝ }
+    ensures { λ _. ⌜ now (space .exit) ≡ set (now (space .entry)) at (slot .space) ⌝ }
+    ensures { λ _. ⌜ now (address .exit) ≡ set (now (address .entry)) at (slot .address) ⌝ }
+    ensures { λ _. ⌜ now (left .exit) ≡ set (now (left .entry)) at (slot .left) ⌝ }
+    ensures { λ _. ⌜ now (offset .exit) ≡ set (now (offset .entry)) at (slot .offset) ⌝ }
+{
+    direction[at] = slot.direction;
+    space[at] = slot.space;
+    address[at] = slot.address;
+    left[at] = slot.left;
+    offset[at] = slot.offset;
+}
+
+// The channel, put together again.
+pub(crate) fn channel_of(
+    standing: Standing,
+    inactive: [bool; 16],
+    direction: [u32; 16],
+    space: [u32; 16],
+    address: [u32; 16],
+    left: [u32; 16],
+    offset: [u32; 16],
+) -> Channel
+    ensures { λ r. ⌜ r ≡ channelOf standing inactive direction space address left offset ⌝ }
+{
+    let phase = standing.phase;
+    let asked = standing.asked;
+    Channel {
+        phase: phase,
+        asked: asked,
+        clock: standing.clock,
+        inactive: inactive,
+        direction: direction,
+        space: space,
+        address: address,
+        left: left,
+        offset: offset,
+    }
+}
+
+// A step that takes so long would pass the clock's limit.
+pub(crate) fn is_full(clock: u32, time: u32) -> bool
+    ensures { λ r. ⌜ r ≡ ltb 4000000000 (clock + time) ⌝ }
+{
+    4000000000 < clock as u64 + time as u64
+}
+
+// The lowest level with an open request and no inactive mark, where none below `low` waits; with none, 15.
+fn winner_from<'a>(left: &'a [u32; 16], inactive: &'a [bool; 16], low: u8) -> u8
+    requires { ⌜ low ≤ 16 ⌝ }
+    requires { ⌜ NoneWait (now left) (now inactive) low ⌝ }
+    ensures { λ r. ⌜ r ≡ winner (now (left .entry)) (now (inactive .entry)) ⌝ }
+{
+    let mut level: u8 = low;
+    while level < 16 {
+        let at = level as usize;
+        if (left[at] != 0) & !inactive[at] {
+            return level;
+        }
+        level += 1;
+    }
+    15
+}
+
+// Some level from `from` on has an open request and isn't inactive.
+fn waits_from<'a>(left: &'a [u32; 16], inactive: &'a [bool; 16], from: u8) -> bool
+    ensures { λ r. ⌜ r ≡ waitsFrom (now (left .entry)) (now (inactive .entry)) from ⌝ }
+{
+    let mut level: usize = from as usize;
+    while level < 16 {
+        if (left[level] != 0) & !inactive[level] {
+            return true;
+        }
+        level += 1;
+    }
+    false
+}
+
+// Some level from `from` on, other than the owner, has an open request.
+fn others_from(left: &[u32; 16], from: u8, owner: u8) -> bool
+    ensures { λ r. ⌜ r ≡ othersFrom (now (left .entry)) from owner ⌝ }
+{
+    let mut level: u8 = from;
+    while level < 16 {
+        if (left[level as usize] != 0) & (level != owner) {
+            return true;
+        }
+        level += 1;
+    }
+    false
+}
+
+// The winner and the line rule after its grant. No level below the winner waits, so that those above it are all there is to
+// look at; where none of them does, every mark goes, and those from `base` on are all that have a request.
+pub(crate) fn choose(left: &[u32; 16], inactive: &mut [bool; 16], base: u8, low: u8) -> Chosen
+    requires { ⌜ Search (now left) (now inactive) base low ⌝ }
+    ensures { λ r. ⌜ IsChosen (now (left .entry)) (now (inactive .entry)) (now (inactive .exit)) base r ⌝ }
+{
+    let winner = winner_from(left, inactive, low);
+    if waits_from(left, inactive, winner + 1) {
+        return Chosen {
+            winner: winner,
+            active: true,
+            low: winner,
+        };
+    }
+    *inactive = [false; 16];
+    let active = others_from(left, base, winner);
+    Chosen {
+        winner: winner,
+        active: active,
+        low: base,
+    }
+}
+
+// A step that the clock has no room for.
+pub(crate) fn full(standing: Standing) -> Acted
+    ensures { λ r. ⌜ r ≡ fullActed standing ⌝ }
+{
+    Acted {
+        standing: standing,
+        answer: StepAnswer::Refused(Refusal::ClockFull),
+    }
+}
+
+// The winner is the owner, with no asked time until the line rule sets one.
+pub(crate) fn granted(standing: Standing, chosen: Chosen) -> Acted
+    requires { ⌜ standing .clock + arbitrationTime ≤ 4000000000 ⌝ }
+    ensures { λ r. ⌜ r ≡ grantedBy standing (chosen .winner) (chosen .active) ⌝ }
+{
+    let clock = standing.clock + act::arbitration_time();
+    let asked = channel::asked_if(chosen.active, clock);
+    let tally = tally::add_grant(standing.tally);
+    let next = Standing {
+        phase: Phase::Granted(chosen.winner),
+        asked: asked,
+        clock: clock,
+        tally: tally,
+    };
+    Acted {
+        standing: next,
+        answer: StepAnswer::Done(Entry::Grant(clock, chosen.winner)),
+    }
+}
+
+// An owner without a request leaves where it is asked, and idles otherwise: the line is active exactly when there is an
+// asked time.
+pub(crate) fn rest(standing: Standing, owner: u8) -> Acted
+    ensures { λ r. ⌜ r ≡ restActed (standing .asked) standing owner ⌝ }
+{
+    let asked = standing.asked;
+    match asked {
+        Asked::Never => Acted {
+            standing: standing,
+            answer: StepAnswer::Done(Entry::Idle(standing.clock)),
+        },
+        Asked::At(t) => {
+            let hold = Hold::After(basics::less(standing.clock, t));
+            let longest = tally::add_release(standing.tally, hold);
+            let next = Standing {
+                phase: Phase::Arbitrating,
+                asked: Asked::Never,
+                clock: standing.clock,
+                tally: longest,
+            };
+            Acted {
+                standing: next,
+                answer: StepAnswer::Done(Entry::Release(standing.clock, owner, hold)),
+            }
+        }
+    }
+}
+
+// What stands after a cycle with this ending.
+pub(crate) fn standing_after(
+    standing: Standing,
+    clock: u32,
+    tally: Tally,
+    ending: Ending,
+) -> Standing
+    ensures { λ r. ⌜ r ≡ standingAfter standing clock tally ending ⌝ }
+{
+    let phase = standing.phase;
+    let asked = standing.asked;
+    if act::is_kept(ending) {
+        return Standing {
+            phase: phase,
+            asked: asked,
+            clock: clock,
+            tally: tally,
+        };
+    }
+    Standing {
+        phase: Phase::Arbitrating,
+        asked: Asked::Never,
+        clock: clock,
+        tally: tally,
+    }
+}
+
+// A cycle with this ending, and its entry.
+fn cycled(
+    path: Path,
+    standing: Standing,
+    owner: u8,
+    request: Request,
+    bytes: u32,
+    ending: Ending,
+) -> Acted
+    requires { ⌜ bytes ≡ cycleBytes path request ⌝ }
+    requires { ⌜ standing .clock + path .time ≤ 4000000000 ⌝ }
+    ensures { λ r. ⌜ r ≡ cycleActed path standing owner request ending ⌝ }
+{
+    let clock = standing.clock + path.time;
+    let entry = CycleEntry {
+        clock: clock,
+        level: owner,
+        address: request.address,
+        bytes: bytes,
+        direction: request.direction,
+        master: cycle::master_lane(path.width, request.address),
+        slave: cycle::slave_lane(path.port, request.address),
+        ending: ending,
+    };
+    let tally = tally::add_cycle(standing.tally, bytes, ending);
+    let next = standing_after(standing, clock, tally, ending);
+    Acted {
+        standing: next,
+        answer: StepAnswer::Done(Entry::Cycle(entry)),
+    }
+}
+
+// A step that moves nothing and leaves the owner's slot.
+fn stay(acted: Acted, request: Request) -> Decided
+    ensures { λ r. ⌜ r ≡ stays acted request ⌝ }
+{
+    let carry = Carry {
+        direction: 0,
+        place: 0,
+        offset: 0,
+        bytes: 0,
+    };
+    Decided {
+        acted: acted,
+        slot: request,
+        carry: carry,
+    }
+}
+
+// One cycle of the owner's request.
+fn decide_cycle(
+    path: Path,
+    standing: Standing,
+    owner: u8,
+    request: Request,
+    inactive: &mut [bool; 16],
+) -> Decided
+    requires { ⌜ owner < 16 ⌝ }
+    requires { ⌜ standing .clock + path .time ≤ 4000000000 ⌝ }
+    requires { ⌜ Way path request ⌝ }
+    ensures { λ r. ⌜ r ≡ cycleDecided path standing owner request ⌝ }
+    ensures { λ r. ⌜ now (inactive .exit) ≡ cycleMarks path standing owner request (now (inactive .entry)) ⌝ }
+{
+    let bytes = bytes_of(path, request);
+    let asked = standing.asked;
+    let after = after_cycle(path, asked, standing.clock + path.time, request, bytes);
+    let ending = after.ending;
+    inactive[owner as usize] = act::is_marked(ending);
+    let acted = cycled(path, standing, owner, request, bytes, ending);
+    let slot = after.rest;
+    let carry = carry_of(path, request, bytes);
+    Decided {
+        acted: acted,
+        slot: slot,
+        carry: carry,
+    }
+}
+
+// The step of a sound channel, by what is left of the owner's request and the path of it.
+pub(crate) fn act_on(
+    path: Path,
+    standing: Standing,
+    request: Request,
+    left: &[u32; 16],
+    inactive: &mut [bool; 16],
+) -> Decided
+    requires { ⌜ Actable path standing request ⌝ }
+    ensures { λ r. ⌜ r ≡ decidedOf path standing request (now (left .entry)) (now (inactive .entry)) ⌝ }
+    ensures { λ r. ⌜ now (inactive .exit) ≡ decidedMarks path standing request (now (left .entry)) (now (inactive .entry)) ⌝ }
+{
+    let phase = standing.phase;
+    match phase {
+        Phase::Arbitrating => {
+            if is_full(standing.clock, act::arbitration_time()) {
+                return stay(full(standing), request);
+            }
+            let chosen = choose(left, inactive, 0, 0);
+            stay(granted(standing, chosen), request)
+        }
+        Phase::Granted(owner) => {
+            if request.left == 0 {
+                return stay(rest(standing, owner), request);
+            }
+            if is_full(standing.clock, path.time) {
+                return stay(full(standing), request);
+            }
+            decide_cycle(path, standing, owner, request, inactive)
+        }
+    }
+}

@@ -1,0 +1,392 @@
+// How a run goes on: in turns, each a grant, a release, an idle step, or all cycles of one owner, which are looped over in
+// scalars. Set-up and channel are tested once, as every step keeps the channel sound. The paths of the open requests are
+// looked up once: none is posted during a run, and what is left of a request goes the way of the whole.
+use crate::Ran;
+use crate::acts::Acted;
+use crate::acts::Standing;
+use crate::acts::channel_of;
+use crate::acts::choose;
+use crate::acts::granted;
+use crate::acts::is_full;
+use crate::acts::place_at;
+use crate::acts::put_slot;
+use crate::acts::rest;
+use crate::acts::slot_at;
+use crate::acts::standing_after;
+use crate::cycles::after_cycle;
+use crate::cycles::bytes_of;
+use crate::cycles::carry;
+use crate::cycles::carry_of;
+use act::Ending;
+use act::Path;
+use channel::Asked;
+use channel::Channel;
+use channel::Phase;
+use channel::Request;
+use frame::Setup;
+use refusal::Refusal;
+use refusal::Verdict;
+use tally::Tally;
+ghost use mathlib.Core.Path.{_≡_};
+ghost use Prim.Native.Nat.{_+_, _-_, _≤_, _<_};
+ghost use mathlib.Core.Bool.{false};
+ghost use lib.ListN.{length};
+ghost use Rattle.channel.specs.Channel.{Shaped};
+ghost use Rattle.channel.specs.Line.{isInactive};
+ghost use Rattle.sound.specs.Tables.{requestAt};
+ghost use Rattle.act.specs.Cycle.{cycleBytes};
+ghost use Rattle.step.specs.Step.{Ready, Way, Roomy};
+ghost use Rattle.step.specs.Run.{world, runFrom};
+ghost use Rattle.step.specs.Machine.{NoneAsk, channelOf};
+ghost use Rattle.step.specs.Turns.{cycled, filled, held, ArePaths, onward, cyclesRun, Lows, Turnable, runningOf, turnOf, verdictIf};
+
+// A run: what stands after its last turn, the steps done, whether the next one would pass the clock's limit, and a level
+// below which nobody waits.
+struct State {
+    standing: Standing,
+    done: u32,
+    full: bool,
+    low: u8,
+}
+
+// An owner's cycles: the clock, what is left of its request, the tally, the steps done, and how the last cycle ended.
+struct Tenure {
+    clock: u32,
+    request: Request,
+    tally: Tally,
+    done: u32,
+    ending: Ending,
+    full: bool,
+}
+
+// One cycle more of an owner.
+fn cycle_on(path: Path, asked: Asked, now: Tenure, bytes: u32) -> Tenure
+    requires { ⌜ Way path (now .request) ⌝ }
+    requires { ⌜ bytes ≡ cycleBytes path (now .request) ⌝ }
+    requires { ⌜ now .clock + path .time ≤ 4000000000 ⌝ }
+    requires { ⌜ now .done < 65535 ⌝ }
+    ensures { λ r. ⌜ r ≡ cycled path asked now ⌝ }
+{
+    let clock = now.clock + path.time;
+    let after = after_cycle(path, asked, clock, now.request, bytes);
+    let slot = after.rest;
+    let ending = after.ending;
+    let tally = tally::add_cycle(now.tally, bytes, ending);
+    Tenure {
+        clock: clock,
+        request: slot,
+        tally: tally,
+        done: now.done + 1,
+        ending: ending,
+        full: false,
+    }
+}
+
+// The clock has no room for another.
+fn fill(now: Tenure) -> Tenure
+    ensures { λ r. ⌜ r ≡ filled now ⌝ }
+{
+    let request = now.request;
+    let tally = now.tally;
+    Tenure {
+        clock: now.clock,
+        request: request,
+        tally: tally,
+        done: now.done,
+        ending: Ending::Kept,
+        full: true,
+    }
+}
+
+// Cycles of one owner, until it releases the channel, the clock is full or the budget is used up.
+fn hold_channel(
+    path: Path,
+    asked: Asked,
+    from: Tenure,
+    slave: &mut [u8],
+    master: &mut [u8],
+    budget: u32,
+) -> Tenure
+    requires { ⌜ Roomy path (from .request) (length (now slave)) (length (now master)) ⌝ }
+    requires { ⌜ from .clock ≤ 4000000000 ⌝ }
+    requires { ⌜ budget ≤ 65535 ⌝ }
+    ensures { λ r. ⌜ r ≡ held path asked (budget - from .done) from (now (slave .entry)) (now (master .entry)) .tenure ⌝ }
+    ensures { λ r. ⌜ now (slave .exit) ≡ held path asked (budget - from .done) from (now (slave .entry)) (now (master .entry)) .slave ⌝ }
+    ensures { λ r. ⌜ now (master .exit) ≡ held path asked (budget - from .done) from (now (slave .entry)) (now (master .entry)) .master ⌝ }
+{
+    let mut now = from;
+    while now.done < budget {
+        if is_full(now.clock, path.time) {
+            return fill(now);
+        }
+        let request = now.request;
+        let bytes = bytes_of(path, request);
+        carry(carry_of(path, request, bytes), slave, master);
+        now = cycle_on(path, asked, now, bytes);
+        let ending = now.ending;
+        if !act::is_kept(ending) {
+            return now;
+        }
+    }
+    now
+}
+
+// A turn of one step.
+fn stepped_on(acted: Acted, done: u32, low: u8) -> State
+    requires { ⌜ done < 65535 ⌝ }
+    ensures { λ r. ⌜ r ≡ onward acted done low ⌝ }
+{
+    let standing = acted.standing;
+    State {
+        standing: standing,
+        done: done + 1,
+        full: false,
+        low: low,
+    }
+}
+
+// The owner's cycles, on the lent arrays.
+fn run_cycles(
+    path: Path,
+    at: usize,
+    state: State,
+    request: Request,
+    inactive: &mut [bool; 16],
+    direction: &mut [u32; 16],
+    space: &mut [u32; 16],
+    address: &mut [u32; 16],
+    left: &mut [u32; 16],
+    offset: &mut [u32; 16],
+    slave: &mut [u8],
+    master: &mut [u8],
+    budget: u32,
+) -> State
+    requires { ⌜ at < 16 ⌝ }
+    requires { ⌜ state .standing .phase ≡ Phase.Granted at ⌝ }
+    requires { ⌜ isInactive (now inactive) at ≡ false ⌝ }
+    requires { ⌜ request ≡ requestAt (now direction) (now space) (now address) (now left) (now offset) at ⌝ }
+    requires { ⌜ Roomy path request (length (now slave)) (length (now master)) ⌝ }
+    requires { ⌜ state .standing .clock ≤ 4000000000 ⌝ }
+    requires { ⌜ budget ≤ 65535 ⌝ }
+    ensures { λ r. ⌜ runningOf r (now (inactive .exit)) (now (direction .exit)) (now (space .exit)) (now (address .exit))
+        (now (left .exit)) (now (offset .exit)) (now (slave .exit)) (now (master .exit))
+        ≡ cyclesRun path budget at (runningOf state (now (inactive .entry)) (now (direction .entry)) (now (space .entry))
+        (now (address .entry)) (now (left .entry)) (now (offset .entry)) (now (slave .entry)) (now (master .entry))) ⌝ }
+    ensures { λ r. ⌜ r .low ≡ state .low ⌝ }
+{
+    let standing = state.standing;
+    let asked = standing.asked;
+    let tally = standing.tally;
+    let from = Tenure {
+        clock: standing.clock,
+        request: request,
+        tally: tally,
+        done: state.done,
+        ending: Ending::Kept,
+        full: false,
+    };
+    let tenure = hold_channel(path, asked, from, slave, master, budget);
+    let slot = tenure.request;
+    put_slot(direction, space, address, left, offset, at, slot);
+    let ending = tenure.ending;
+    inactive[at] = act::is_marked(ending);
+    let figures = tenure.tally;
+    let next = standing_after(standing, tenure.clock, figures, ending);
+    State {
+        standing: next,
+        done: tenure.done,
+        full: tenure.full,
+        low: state.low,
+    }
+}
+
+// One turn.
+fn turn(
+    path: Path,
+    base: u8,
+    state: State,
+    inactive: &mut [bool; 16],
+    direction: &mut [u32; 16],
+    space: &mut [u32; 16],
+    address: &mut [u32; 16],
+    left: &mut [u32; 16],
+    offset: &mut [u32; 16],
+    slave: &mut [u8],
+    master: &mut [u8],
+    budget: u32,
+) -> State
+    requires { ⌜ Turnable path base (state .low) budget (runningOf state (now inactive) (now direction) (now space) (now address)
+        (now left) (now offset) (now slave) (now master)) ⌝ }
+    ensures { λ r. ⌜ runningOf r (now (inactive .exit)) (now (direction .exit)) (now (space .exit)) (now (address .exit))
+        (now (left .exit)) (now (offset .exit)) (now (slave .exit)) (now (master .exit))
+        ≡ turnOf path budget (runningOf state (now (inactive .entry)) (now (direction .entry)) (now (space .entry))
+        (now (address .entry)) (now (left .entry)) (now (offset .entry)) (now (slave .entry)) (now (master .entry))) ⌝ }
+    ensures { λ r. ⌜ Lows base (r .low) (channelOf (r .standing) (now (inactive .exit)) (now (direction .exit)) (now (space .exit))
+        (now (address .exit)) (now (left .exit)) (now (offset .exit))) ⌝ }
+{
+    let standing = state.standing;
+    let phase = standing.phase;
+    match phase {
+        Phase::Arbitrating => {
+            if is_full(standing.clock, act::arbitration_time()) {
+                return State {
+                    standing: standing,
+                    done: state.done,
+                    full: true,
+                    low: state.low,
+                };
+            }
+            let chosen = choose(left, inactive, base, state.low);
+            stepped_on(granted(standing, chosen), state.done, chosen.low)
+        }
+        Phase::Granted(owner) => {
+            let at = owner as usize;
+            let request = slot_at(direction, space, address, left, offset, at);
+            if request.left == 0 {
+                return stepped_on(rest(standing, owner), state.done, state.low);
+            }
+            run_cycles(
+                path,
+                at,
+                state,
+                request,
+                inactive,
+                direction,
+                space,
+                address,
+                left,
+                offset,
+                slave,
+                master,
+                budget,
+            )
+        }
+    }
+}
+
+// The lowest level with an open request, and 15 at the most.
+fn lowest(left: &[u32; 16]) -> u8
+    ensures { λ r. ⌜ (r ≤ 15) × NoneAsk (now (left .entry)) r ⌝ }
+{
+    let mut level: u8 = 0;
+    while level < 15 {
+        if left[level as usize] != 0 {
+            return level;
+        }
+        level += 1;
+    }
+    level
+}
+
+// The paths of the open requests, by level.
+fn paths_of<'a>(
+    setup: Setup,
+    direction: &'a [u32; 16],
+    space: &'a [u32; 16],
+    address: &'a [u32; 16],
+    left: &'a [u32; 16],
+    offset: &'a [u32; 16],
+) -> [Path; 16]
+    ensures { λ r. ⌜ ArePaths setup (requestAt (now (direction .entry)) (now (space .entry)) (now (address .entry)) (now (left .entry))
+        (now (offset .entry))) r 16 ⌝ }
+{
+    let none = Path {
+        width: 0,
+        options: 0,
+        port: 0,
+        time: 0,
+        base: 0,
+        allowed: 0,
+        start: 0,
+    };
+    let mut paths = [none; 16];
+    let mut level: usize = 0;
+    while level < 16 {
+        if left[level] == 0 {
+            level += 1;
+        } else {
+            let request = slot_at(direction, space, address, left, offset, level);
+            paths[level] = act::path_of(setup, level as u32, request);
+            level += 1;
+        }
+    }
+    paths
+}
+
+fn verdict_of(full: bool) -> Verdict
+    ensures { λ r. ⌜ r ≡ verdictIf full ⌝ }
+{
+    if full {
+        return Verdict::Refused(Refusal::ClockFull);
+    }
+    Verdict::Accepted
+}
+
+// Up to `budget` steps of a sound channel over stores of the right lengths.
+pub(crate) fn run_steps(
+    setup: Setup,
+    channel: Channel,
+    tally: Tally,
+    slave: &mut [u8],
+    master: &mut [u8],
+    budget: u32,
+) -> Ran
+    requires { ⌜ Ready setup channel (length (now slave)) (length (now master)) ⌝ }
+    requires { ⌜ Shaped channel ⌝ }
+    requires { ⌜ budget ≤ 65535 ⌝ }
+    ensures { λ r. ⌜ r ≡ runFrom setup budget 0 (world channel tally (now (slave .entry)) (now (master .entry))) .result ⌝ }
+    ensures { λ r. ⌜ now (slave .exit) ≡ runFrom setup budget 0 (world channel tally (now (slave .entry)) (now (master .entry))) .slave ⌝ }
+    ensures { λ r. ⌜ now (master .exit) ≡ runFrom setup budget 0 (world channel tally (now (slave .entry)) (now (master .entry))) .master ⌝ }
+{
+    let phase = channel.phase;
+    let asked = channel.asked;
+    let mut inactive = channel.inactive;
+    let mut direction = channel.direction;
+    let mut space = channel.space;
+    let mut address = channel.address;
+    let mut left = channel.left;
+    let mut offset = channel.offset;
+    let paths = paths_of(setup, &direction, &space, &address, &left, &offset);
+    let base = lowest(&left);
+    let standing = Standing {
+        phase: phase,
+        asked: asked,
+        clock: channel.clock,
+        tally: tally,
+    };
+    let mut state = State {
+        standing: standing,
+        done: 0,
+        full: false,
+        low: base,
+    };
+    while (state.done < budget) & !state.full {
+        let now = state.standing;
+        let at = place_at(now);
+        let path = paths[at];
+        state = turn(
+            path,
+            base,
+            state,
+            &mut inactive,
+            &mut direction,
+            &mut space,
+            &mut address,
+            &mut left,
+            &mut offset,
+            slave,
+            master,
+            budget,
+        );
+    }
+    let last = state.standing;
+    let figures = last.tally;
+    let verdict = verdict_of(state.full);
+    let next = channel_of(last, inactive, direction, space, address, left, offset);
+    Ran {
+        channel: next,
+        tally: figures,
+        steps: state.done,
+        verdict: verdict,
+    }
+}
