@@ -2,13 +2,19 @@
 use Prim.Native.Nat.{ℕ, suc, _+_, _-_, _≤_, _<_}
 use mathlib.Core.Path.{_≡_, refl, sym, ap, _∙_}
 use mathlib.Core.Logic.{_≢_}
+use mathlib.Core.Bool.{Bool, false, not}
 use mathlib.Core.List.{List, [], _∷_, _++_, append-assoc}
 use native.Mathlib.Nat.{add-zero}
 use native.Mathlib.Numerals.{add-one}
 use native.Mathlib.Omega.{arith}
+use borrow.Author.Tests.{leb-true, not-false}
 use lib.ListN.{length, set, getD}
 use lib.Seq.{sets, set-comm}
-use Rattle.logline.specs.Text.{field, fieldsFrom}
+use Rattle.logline.specs.Text.{isRoom, field, fieldsFrom}
+
+-- there is room for the longest line, as `has_room` said
+pub room-is : (size at : ℕ) {r : Bool} → r ≡ isRoom size at → not r ≡ false → at + 96 ≤ size
+room-is size at {r} e f = leb-true (at + 96) size (sym e ∙ not-false r f)
 
 -- a text of two parts is written one part after the other
 pub sets-append : (a b l : List ℕ) (i : ℕ) → sets l i (a ++ b) ≡ sets (sets l i a) (i + length a) b

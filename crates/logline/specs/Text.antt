@@ -28,8 +28,11 @@ abbrev pub line : ℕ → List ℕ → List ℕ
 line letter numbers = lineOf letter numbers (length numbers)
 
 -- a line is written where there is room for the longest of them; otherwise nothing is written, and the place stays
+abbrev pub isRoom : ℕ → ℕ → Bool
+isRoom size at = leb (at + 96) size
+
 abbrev pub hasRoom : List ℕ → ℕ → Bool
-hasRoom out at = leb (at + 96) (length out)
+hasRoom out at = isRoom (length out) at
 
 unfoldable pub past : List ℕ → ℕ → List ℕ → ℕ
 past out at text = cond (hasRoom out at) (at + length text) at

@@ -6,7 +6,7 @@ ghost use mathlib.Core.Path.{_≡_};
 ghost use Prim.Native.Nat.{_+_, _≤_};
 ghost use lib.ListN.{length};
 ghost use lib.Seq.{sets};
-ghost use Rattle.logline.specs.Text.{digits, field, lineOf, past, written};
+ghost use Rattle.logline.specs.Text.{digits, field, lineOf, isRoom, past, written};
 ghost use Rattle.act.specs.Entry.{endingNumber};
 ghost use Rattle.logline.specs.Line.{cycleText, entryText, postText, stopText, endText, faultText};
 
@@ -71,16 +71,26 @@ fn put_field(out: &mut [u8], at: usize, n: u32) -> usize
     put_digits(out, at + 1, n)
 }
 
+// Room for the longest line of a log.
+const LONGEST: usize = 96;
+
+// A buffer of that size has room for the longest line from `at` on.
+pub fn has_room(size: usize, at: usize) -> bool
+    ensures { λ r. ⌜ r ≡ isRoom size at ⌝ }
+{
+    if size < LONGEST {
+        return false;
+    }
+    at <= size - LONGEST
+}
+
 // A letter, the first `count` of the numbers, and the end of the line, where there is room for the longest line.
 fn put_line(out: &mut [u8], at: usize, letter: u8, numbers: [u32; 8], count: usize) -> usize
     requires { ⌜ count ≤ 8 ⌝ }
     ensures { λ r. ⌜ r ≡ past (now (out .entry)) at (lineOf letter numbers count) ⌝ }
     ensures { λ _. ⌜ now (out .exit) ≡ written (now (out .entry)) at (lineOf letter numbers count) ⌝ }
 {
-    if out.len() < 96 {
-        return at;
-    }
-    if out.len() - 96 < at {
+    if !has_room(out.len(), at) {
         return at;
     }
     out[at] = letter;

@@ -4,11 +4,11 @@ use mathlib.Core.Path.{_≡_, refl, sym}
 use mathlib.Core.Bool.{true, false, _&&_, and-false}
 use mathlib.Core.List.{List}
 use native.Mathlib.Omega.{arith}
-use borrow.Author.Tests.{leb-true, leb-false, le-leb, lt-leb}
+use borrow.Author.Tests.{leb-true, lt-leb}
 use lib.Dec.{leb}
 use lib.ListN.{length, drop}
 use lib.Seq.{paste-zero}
-use Rattle.basics.proofs.Tests.{by-test, and-left, and-right}
+use Rattle.basics.proofs.Tests.{and-left, and-right, less-leb}
 use Rattle.refusal.specs.declared.Refusal.{Refusal}
 use Rattle.refusal.specs.declared.Verdict.{Verdict}
 use Rattle.refusal.specs.declared.Verdict.the-variants.{Accepted, Refused as NotReady}
@@ -46,15 +46,6 @@ module _ (c : Carry) (s m : ℕ) where
 
   pub no-master : m < c .bytes → false ≡ hasRoom c s m
   no-master h = rw (lt-leb (c .offset + c .bytes) m (omega (arith, h)), and-false)
-
-  less-leb : (x n len : ℕ) → n ≤ len → leb x (len - n) ≡ leb (x + n) len
-  less-leb x n len h =
-      by-test (leb (x + n) len)
-      (λ t. rw t (le-leb x (len - n) (omega (arith, leb-true (x + n) len t))))
-      (λ f. rw f (lt-leb x (len - n) (past f)))
-    where
-      past : leb (x + n) len ≡ false → len - n < x
-      past f = omega (arith, leb-false (x + n) len f, h)
 
   pub both-room : c .bytes ≤ s → c .bytes ≤ m → (leb (c .place) (s - c .bytes) && leb (c .offset) (m - c .bytes)) ≡ hasRoom c s m
   both-room h k = rw (less-leb (c .place) (c .bytes) s h, less-leb (c .offset) (c .bytes) m k)
@@ -94,9 +85,12 @@ module _ (setup : Setup) (ch : Channel) (slave master : List ℕ) where
       let x = planned-roomy setup ch o (length slave) (length master) r e in
       room-of (pathOf setup o (requestOf ch o)) (requestOf ch o) (x .way) (length slave) (length master) x
 
+  pub act-room : Ready setup ch (length slave) (length master) → Room (carryBy setup ch (actPlan setup ch)) (length slave) (length master)
+  act-room r = by-plan r (actPlan setup ch) refl
+
   by-verdict : (v : Verdict) → readyVerdict setup ch (length slave) (length master) ≡ v
       → Room (carryBy setup ch (planBy setup ch v)) (length slave) (length master)
-  by-verdict Accepted e = by-plan (ready-is setup ch (length slave) (length master) e) (actPlan setup ch) refl
+  by-verdict Accepted e = act-room (ready-is setup ch (length slave) (length master) e)
   by-verdict (NotReady why) e = nothing
 
   -- and has room in them

@@ -35,7 +35,7 @@ use Rattle.step.proofs.DecideLaws.{decides-late, decides-cycle}
 use Rattle.step.proofs.MachineLaws.{put-same, put-ended}
 use Rattle.step.proofs.HeldLaws.{kept-some, kept-is, cycled-facts, cycled-going}
 use Rattle.step.proofs.PutLaws.{stays-full}
-use Rattle.step.proofs.TurnLaws.{Turned, turned-on, one-step}
+use Rattle.step.proofs.TurnLaws.{Turned, turned-on, turned-step}
 
 -- a request laid in its place twice
 moved-twice : (ch : Channel) (o k c : ℕ) (q p : Request)
@@ -225,7 +225,7 @@ module _ (setup : Setup) (budget : ℕ) (ch : Channel) (shaped : Shaped ch) (o :
   unfolding held
   held-right zero t slave master g e f d = none-right t slave master g e f (omega (arith, d))
   held-right (suc k) t slave master g e f d =
-      let one = one-step setup budget (midst t slave master) refl (omega (arith, d)) (g .ready) (to-shaped t) path
+      let one = turned-step setup budget (midst t slave master) refl (omega (arith, d)) (g .ready) (to-shaped t) path
       (way-of t slave master g) in
       by-test (ltb clockLimit (t .clock + path .time))
       (λ full. rw full (rw (full-is t slave master g full) at one))

@@ -1,4 +1,4 @@
--- A run that goes on: what holds before each turn, and that a turn keeps it.
+-- A run that goes on, logged or not: what holds before each turn, and that a turn keeps it.
 use Prim.Native.Nat.{ℕ, suc, _-_, _≤_, _<_}
 use mathlib.Core.Path.{_≡_, refl, sym, ap, _∙_}
 use mathlib.Core.Bool.{Bool, true, false, cond, not, _&&_, false≢true}
@@ -19,42 +19,68 @@ use Rattle.channel.specs.Line.{waits}
 use Rattle.sound.proofs.SoundFacts.{sound-is}
 use Rattle.act.specs.declared.Path.{Path}
 use Rattle.act.specs.Cycle.{pathOf}
-use Rattle.tally.specs.declared.Tally.{Tally}
 use Rattle.step.specs.Step.{Ready}
 use Rattle.step.specs.Run.{ended, runFrom}
 use Rattle.step.specs.Machine.{noPath, NoneAsk}
-use Rattle.step.specs.Turns.{Running, worldOf, verdictIf, toCome, ArePaths, Lows, Turnable, turnBy, turnOf}
+use Rattle.step.specs.Turns.{
+  Running,
+  worldOf,
+  verdictIf,
+  decidedIn,
+  stepRun,
+  toCome,
+  ArePaths,
+  Lows,
+  Turnable,
+  Loggable,
+  turnBy,
+  turnOf,
+}
 use Rattle.step.proofs.PlanLaws.{roomy}
-use Rattle.step.proofs.TurnLaws.{Turned, one-step}
+use Rattle.step.proofs.MachineLaws.{actable-by}
+use Rattle.step.proofs.TurnLaws.{SameWays, OneStep, one-step, room-step, Turned, turned-step}
 use Rattle.step.proofs.CycleLaws.{cycles-turn}
 
--- from its start on
-pub record Going (setup : Setup) (budget : ℕ) (paths : List Path) (first w : Running) : Type 0 where
-  pub same : toCome setup budget w ≡ toCome setup budget first
+pub record Going (setup : Setup) (paths : List Path) (w : Running) : Type 0 where
   pub ready : Ready setup (w .channel) (length (w .slave)) (length (w .master))
   pub shaped : Shaped (w .channel)
-  pub least : w .done ≤ budget
   pub routed : ArePaths setup (requestOf (w .channel)) paths 16
 
 open-is : (n : ℕ) → eqb n 0 ≡ false → not (eqb n 0) ≡ true
 open-is n e = rw e
 
-pub go-on : (setup : Setup) (budget : ℕ) (paths : List Path) (first w later : Running) → Going setup budget paths first w
-    → Turned setup budget w later
-    → Going setup budget paths first later
-go-on setup budget paths first w later g t =
+pub go-on : (setup : Setup) (paths : List Path) (w later : Running) → Going setup paths w
+    → Ready setup (later .channel) (length (later .slave)) (length (later .master)) → Shaped (later .channel)
+    → SameWays setup (w .channel) (later .channel) → Going setup paths later
+go-on setup paths w later g ready shaped ways =
     record {
-      same = t .same ∙ g .same;
-      ready = t .ready;
-      shaped = t .shaped;
-      least = t .least;
+      ready = ready;
+      shaped = shaped;
       routed = λ l n a.
-          let p = t .ways l (open-is (getD (later .channel .left) l 0) a) in
+          let p = ways l (open-is (getD (later .channel .left) l 0) a) in
           g .routed l n (not-true (eqb (getD (w .channel .left) l 0) 0) (p .0)) ∙ sym (p .1);
     }
 
-module _ (setup : Setup) (budget : ℕ) (paths : List Path) (first w : Running) (g : Going setup budget paths first w) (f : w .full ≡ false)
-    (h : w .done < budget) where
+-- a run at its start and later
+pub record Runs (setup : Setup) (budget : ℕ) (paths : List Path) (first w : Running) : Type 0 where
+  pub going : Going setup paths w
+  pub same : toCome setup budget w ≡ toCome setup budget first
+  pub least : w .done ≤ budget
+
+pub runs-on : (setup : Setup) (budget : ℕ) (paths : List Path) (first w later : Running) → Runs setup budget paths first w
+    → Turned setup budget w later → Runs setup budget paths first later
+runs-on setup budget paths first w later g t =
+    record {
+      going = go-on setup paths w later (g .going) (t .ready) (t .shaped) (t .ways);
+      same = t .same ∙ g .same;
+      least = t .least;
+    }
+
+pub runs-first : (setup : Setup) (budget : ℕ) (paths : List Path) (first : Running) → first .done ≡ 0 → Going setup paths first
+    → Runs setup budget paths first first
+runs-first setup budget paths first z g = record { going = g; same = refl; least = omega (arith, z) }
+
+module _ (setup : Setup) (paths : List Path) (w : Running) (g : Going setup paths w) where
   abbrev path : Path
   path = getD paths (placeIn (w .channel .phase)) noPath
 
@@ -65,22 +91,6 @@ module _ (setup : Setup) (budget : ℕ) (paths : List Path) (first w : Running) 
       ≡ pathOf setup o (requestOf (w .channel) o)
   path-is o p some = ap (λ (x : Phase). getD paths (placeIn x) noPath) p ∙ g .routed o (small o p) some
 
-  -- whatever the phase
-  turn-by : (p : Phase) → w .channel .phase ≡ p → Turned setup budget w (turnBy path budget w p)
-  turn-by Arbitrating e = one-step setup budget w f h (g .ready) (g .shaped) path path-is
-  turn-by (Granted o) e =
-      by-test (eqb (getD (w .channel .left) o 0) 0)
-      (λ z. rw z (one-step setup budget w f h (g .ready) (g .shaped) path path-is))
-      (λ n. rw n (cycles-turn setup budget w f h (g .ready) (g .shaped) o e n path (path-is o e n)))
-
-  turned : Turned setup budget w (turnOf path budget w)
-  unfolding turnOf
-  turned = turn-by (w .channel .phase) refl
-
-  pub turned-by : (later : Running) (i : ℕ) → i ≡ placeIn (w .channel .phase) → later ≡ turnOf (getD paths i noPath) budget w
-      → Turned setup budget w later
-  turned-by later i e t = rw (t, e) turned
-
   pub place-below : placeIn (w .channel .phase) < 16
   place-below = below (w .channel .phase) refl
     where
@@ -88,8 +98,40 @@ module _ (setup : Setup) (budget : ℕ) (paths : List Path) (first w : Running) 
       below Arbitrating e = omega arith
       below (Granted o) e = small o e
 
+  -- a step of it, and what that relies on
+  pub stepped : OneStep setup w (stepRun path w) (decidedIn path (w .channel) (w .tally) .acted .answer)
+  stepped = one-step setup w (g .ready) (g .shaped) path path-is
+
+  pub loggable : w .done < 65535 → Loggable path w
+  loggable more =
+      record {
+        acts = actable-by setup (w .channel) (w .tally) _ _ (g .ready) path path-is;
+        room = room-step setup w (g .ready) (g .shaped) path path-is;
+        place = place-below;
+        more = more;
+      }
+
+module _ (setup : Setup) (budget : ℕ) (paths : List Path) (w : Running) (g : Going setup paths w) (f : w .full ≡ false)
+    (h : w .done < budget) where
+  -- whatever the phase
+  turn-by : (p : Phase) → w .channel .phase ≡ p → Turned setup budget w (turnBy (path setup paths w g) budget w p)
+  turn-by Arbitrating e = turned-step setup budget w f h (g .ready) (g .shaped) (path setup paths w g) (path-is setup paths w g)
+  turn-by (Granted o) e =
+      by-test (eqb (getD (w .channel .left) o 0) 0)
+      (λ z. rw z (turned-step setup budget w f h (g .ready) (g .shaped) (path setup paths w g) (path-is setup paths w g)))
+      (λ n. rw n (cycles-turn setup budget w f h (g .ready) (g .shaped) o e n (path setup paths w g) (path-is setup paths w g o e n)))
+
+  turned : Turned setup budget w (turnOf (path setup paths w g) budget w)
+  unfolding turnOf
+  turned = turn-by (w .channel .phase) refl
+
+  pub turned-by : (later : Running) (i : ℕ) → i ≡ placeIn (w .channel .phase) → later ≡ turnOf (getD paths i noPath) budget w
+      → Turned setup budget w later
+  turned-by later i e t = rw (t, e) turned
+
   -- what the turn relies on
-  pub turnable : (base low : ℕ) → budget ≤ 65535 → Lows base low (w .channel) → Turnable path base low budget w
+  pub turnable : (base low : ℕ) → budget ≤ 65535 → Lows base low (w .channel)
+      → Turnable (path setup paths w g) base low budget w
   turnable base low most lows =
       let s = sound-is setup (w .channel) (g .ready .sound) .settled in
       record {
@@ -100,9 +142,10 @@ module _ (setup : Setup) (budget : ℕ) (paths : List Path) (first w : Running) 
         lows = lows;
         owned = λ o p.
             record {
-              small = small o p;
+              small = small setup paths w g o p;
               active = s .owner o p .active;
-              roomy = λ some. rw (path-is o p some) (roomy setup (w .channel) o (length (w .slave)) (length (w .master)) (g .ready) p some);
+              roomy = λ some.
+                  rw (path-is setup paths w g o p some) (roomy setup (w .channel) o (length (w .slave)) (length (w .master)) (g .ready) p some);
             };
       }
 
@@ -118,13 +161,6 @@ nearer budget done later full now e h m =
     (λ t. rw t (omega arith))
     (λ l. by-test full (λ t. rw t (omega arith)) (λ n. rw n (omega (arith, h, l))))
     m)
-
--- where a run begins
-pub start-going : (setup : Setup) (budget : ℕ) (paths : List Path) (ch : Channel) (t : Tally) (slave master : List ℕ)
-    → Ready setup ch (length slave) (length master) → Shaped ch → ArePaths setup (requestOf ch) paths 16
-    → Going setup budget paths (record { channel = ch; tally = t; done = 0; full = false; slave = slave; master = master })
-    (record { channel = ch; tally = t; done = 0; full = false; slave = slave; master = master })
-start-going setup budget paths ch t slave master r k a = record { same = refl; ready = r; shaped = k; least = omega arith; routed = a }
 
 -- the owner has a request or is 15, so that no search begins above it
 pub start-lows : (setup : Setup) (ch : Channel) (s m base : ℕ) → Ready setup ch s m → base ≤ 15 → NoneAsk (ch .left) base

@@ -16,3 +16,4 @@ pub mod PutLaws
 pub mod TurnLaws
 pub mod CycleLaws
 pub mod GoingLaws
+pub mod LogLaws

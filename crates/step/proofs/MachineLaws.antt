@@ -172,6 +172,18 @@ module _ (setup : Setup) (ch : Channel) (t : Tally) (s m : ℕ) (r : Ready setup
   unfolding decidedOf decidedMarks actPlan
   made = made-phase (ch .phase) refl
 
+-- what the act relies on
+pub actable-by : (setup : Setup) (ch : Channel) (t : Tally) (s m : ℕ) → Ready setup ch s m → (path : Path)
+    → ((o : ℕ) → ch .phase ≡ Granted o → eqb (getD (ch .left) o 0) 0 ≡ false → path ≡ pathOf setup o (requestOf ch o))
+    → Actable path (standingOf ch t) (requestOf ch (placeIn (ch .phase)))
+actable-by setup ch t s m r path way =
+    record {
+      small = λ o e. omega (arith, sound-is setup ch (r .sound) .settled .owner o e .small);
+      way = λ o e n.
+          let some : eqb (getD (ch .left) o 0) 0 ≡ false = sym (ap (λ (x : Phase). eqb (getD (ch .left) (placeIn x) 0) 0) e) ∙ n in
+          rw (e, way o e some) (roomy setup ch o s m r e some .way);
+    }
+
 -- the same from what the functions said
 module _ (setup : Setup) (ch : Channel) (t : Tally) (s m : ℕ) (r : Ready setup ch s m) (k : Shaped ch) where
   small : (o : ℕ) → ch .phase ≡ Granted o → o < 16
@@ -190,14 +202,7 @@ module _ (setup : Setup) (ch : Channel) (t : Tally) (s m : ℕ) (r : Ready setup
     path-is o e n = rw (way, request, place, e, n)
 
     pub actable : Actable path (standingOf ch t) q
-    actable =
-        record {
-          small = small;
-          way = λ o e n.
-              let here : q ≡ requestOf ch o = request ∙ ap (requestOf ch) (place ∙ ap placeIn e) in
-              let some : eqb (getD (ch .left) o 0) 0 ≡ false = sym (ap (λ (x : Request). eqb (x .left) 0) here) ∙ n in
-              rw (here, path-is o e some) (roomy setup ch o s m r e some .way);
-        }
+    actable = rw (request, place) (actable-by setup ch t s m r path path-is)
 
     pub decision-made : (d : Decided) (marks : List Bool) (after : Channel) → d
         ≡ decidedOf path (standingOf ch t) q (ch .left) (ch .inactive)

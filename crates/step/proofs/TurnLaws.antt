@@ -8,6 +8,7 @@ use borrow.Author.Tests.{eqb-true, eqb-false, not-true}
 use lib.ListN.{length, getD}
 use lib.Dec.{eqb}
 use Rattle.basics.proofs.Tests.{by-test}
+use Rattle.refusal.specs.Refusal.{refusalBy}
 use Rattle.refusal.specs.declared.Refusal.{Refusal}
 use Rattle.frame.specs.declared.Setup.{Setup}
 use Rattle.channel.specs.declared.Phase.the-variants.{Granted}
@@ -15,32 +16,48 @@ use Rattle.channel.specs.declared.Channel.{Channel}
 use Rattle.channel.specs.declared.Request.{Request}
 use Rattle.channel.specs.Channel.{hasRequest, requestOf, Shaped}
 use Rattle.channel.specs.Line.{cleared, timed, lineRule}
-use Rattle.sound.proofs.SoundFacts.{sound-is}
+use Rattle.sound.specs.Sound.{isSound}
+use Rattle.sound.proofs.SoundFacts.{sound-is, sound-by}
 use Rattle.act.specs.declared.Path.{Path}
 use Rattle.act.specs.declared.Entry.{Entry}
 use Rattle.act.specs.Cycle.{pathOf, endingAt, freed, cycleTurn}
 use Rattle.act.specs.Turn.{granted, grantTurn, leaveTurn}
 use Rattle.act.proofs.EndingLaws.{ended-request}
-use Rattle.tally.specs.Tally.{addEntry}
 use Rattle.step.specs.declared.Stepped.{Stepped}
 use Rattle.step.specs.declared.Plan.{Plan}
 use Rattle.step.specs.declared.Plan.the-variants as plan
-use Rattle.step.specs.declared.StepAnswer.the-variants.{Done}
-use Rattle.step.specs.Plan.{actPlan}
-use Rattle.step.specs.Step.{Ready, advancedBy, tallyBy, slaveBy, masterBy}
-use Rattle.step.specs.Run.{world, runFrom}
-use Rattle.step.specs.Turns.{Running, worldOf, toCome, steps, stops, stepRun}
-use Rattle.step.proofs.PlanLaws.{says, planned-roomy, moved-lengths}
-use Rattle.step.proofs.KeepLaws.{step-shaped, pathAt, nextCycle, restAt, movedAt, here, other, same-path}
-use Rattle.step.proofs.CarryLaws.{carried}
+use Rattle.step.specs.declared.StepAnswer.{StepAnswer}
+use Rattle.step.specs.declared.StepAnswer.the-variants.{Done, Refused as NotDone}
+use Rattle.step.specs.Plan.{actPlan, planOf}
+use Rattle.step.specs.Step.{Ready, Room, advancedBy, tallyBy, stepOf, slaveBy, masterBy, slaveAfter, masterAfter}
+use Rattle.step.specs.Run.{stepIn, after, runFrom}
+use Rattle.step.specs.Turns.{Running, worldOf, toCome, steps, stops, decidedIn, stepRun}
+use Rattle.step.proofs.PlanLaws.{says, plan-ready, planned-roomy, moved-lengths}
+use Rattle.step.proofs.KeepLaws.{step-sound, step-shaped, pathAt, nextCycle, restAt, movedAt, here, other, same-path}
+use Rattle.step.proofs.CarryLaws.{carried, act-room}
 use Rattle.step.proofs.MachineLaws.{made}
-use Rattle.step.proofs.RunLaws.{run-more, run-stop, answer-ready, after-ready, still-ready}
+use Rattle.step.proofs.RunLaws.{run-more, run-stop}
 
 -- what is open goes the way that it went
 abbrev pub SameWays : Setup → Channel → Channel → Type 0
 SameWays setup ch later =
     (l : ℕ) → hasRequest (later .left) l ≡ true
     → (hasRequest (ch .left) l ≡ true) × (pathOf setup l (requestOf later l) ≡ pathOf setup l (requestOf ch l))
+
+-- one step between them, and what it answers
+pub record OneStep (setup : Setup) (w later : Running) (answer : StepAnswer) : Type 0 where
+  -- it is the step of the definitions
+  pub told : stepIn setup (worldOf w) .answer ≡ answer
+  pub next : after setup (worldOf w) ≡ worldOf later
+  pub done : later .done ≡ steps answer (w .done)
+  pub full : later .full ≡ stops answer
+  -- nothing but the clock refuses it, and then all is as it was
+  pub stopped : (why : Refusal) → answer ≡ NotDone why → (why ≡ refusalBy 6) × (worldOf later ≡ worldOf w)
+  pub ready : Ready setup (later .channel) (length (later .slave)) (length (later .master))
+  pub shaped : Shaped (later .channel)
+  pub slave : length (later .slave) ≡ length (w .slave)
+  pub master : length (later .master) ≡ length (w .master)
+  pub ways : SameWays setup (w .channel) (later .channel)
 
 -- some steps of a run lie between
 pub record Turned (setup : Setup) (budget : ℕ) (w later : Running) : Type 0 where
@@ -69,13 +86,56 @@ turned-on setup budget w v u f a b =
       ways = λ l o. let p = b .ways l o in let q = a .ways l (p .0) in (q .0, p .1 ∙ q .1);
     }
 
+-- one step is some
+pub turned-once : (setup : Setup) (budget : ℕ) (w later : Running) (answer : StepAnswer) → w .full ≡ false → w .done < budget
+    → OneStep setup w later answer → Turned setup budget w later
+unfolding toCome
+turned-once setup budget w later (Done e) f h s =
+    record {
+      same =
+          rw (f, s .full, s .done)
+          (sym
+          (run-more setup budget (w .done) (worldOf w) h e (s .told)
+          ∙ ap (runFrom setup (budget - (w .done + 1)) (w .done + 1)) (s .next)));
+      ready = s .ready;
+      shaped = s .shaped;
+      least = rw (s .done) (omega (arith, h));
+      grows = rw (s .done) (omega arith);
+      more = λ l. inr (rw (s .done) (omega arith));
+      slave = s .slave;
+      master = s .master;
+      ways = s .ways;
+    }
+turned-once setup budget w later (NotDone why) f h s =
+    let x = s .stopped why refl in
+    record {
+      same =
+          rw (f, s .full, s .done, x .1) (sym (run-stop setup budget (w .done) (worldOf w) h why (s .told) ∙ rw (x .0)));
+      ready = s .ready;
+      shaped = s .shaped;
+      least = rw (s .done) (omega (arith, h));
+      grows = rw (s .done) (omega arith);
+      more = λ l. inl (s .full);
+      slave = s .slave;
+      master = s .master;
+      ways = s .ways;
+    }
+
 -- requests that stay go their way
 by-request : (setup : Setup) (ch later : Channel) → ((l : ℕ) → requestOf later l ≡ requestOf ch l) → SameWays setup ch later
 by-request setup ch later same l o =
     (sym (ap (λ (q : Request). not (eqb (q .left) 0)) (same l)) ∙ o, ap (pathOf setup l) (same l))
 
-module _ (setup : Setup) (budget : ℕ) (w : Running) (f : w .full ≡ false) (h : w .done < budget)
-    (r : Ready setup (w .channel) (length (w .slave)) (length (w .master))) (k : Shaped (w .channel)) where
+-- a step that is done is not refused
+not-refused : {e : Entry} {why : Refusal} → Done e ≡ NotDone why → ⊥
+not-refused e = let z : _≡_ {A = ℕ} 0 1 = cc in omega arith
+
+abbrev reason : StepAnswer → Refusal
+reason (Done e) = refusalBy 6
+reason (NotDone why) = why
+
+module _ (setup : Setup) (w : Running) (r : Ready setup (w .channel) (length (w .slave)) (length (w .master)))
+    (k : Shaped (w .channel)) where
   abbrev ch : Channel
   ch = w .channel
 
@@ -91,72 +151,39 @@ module _ (setup : Setup) (budget : ℕ) (w : Running) (f : w .full ≡ false) (h
         master = masterBy setup ch p (w .slave) (w .master);
       }
 
-  coming : toCome setup budget w ≡ runFrom setup (budget - w .done) (w .done) (worldOf w)
-  unfolding toCome
-  coming = rw f
-
+  -- the step of a ready channel is the act's, and the channel after it is ready again
   module _ (p : Plan) (is : actPlan setup ch ≡ p) where
-    answer-is : advancedBy setup ch (actPlan setup ch) .answer ≡ advancedBy setup ch p .answer
-    answer-is = ap (λ (x : Plan). advancedBy setup ch x .answer) is
+    plan-is : planOf setup ch (length (w .slave)) (length (w .master)) ≡ p
+    plan-is = plan-ready setup ch (length (w .slave)) (length (w .master)) r ∙ is
 
-    -- a step that is done
-    done-same : (e : Entry) → advancedBy setup ch p .answer ≡ Done e → toCome setup budget (planned p) ≡ toCome setup budget w
-    unfolding toCome
-    done-same e a =
-        let b = answer-is ∙ a in
-        sym
-        (coming
-        ∙ run-more setup budget (w .done) (worldOf w) h e (answer-ready setup ch (w .tally) (w .slave) (w .master) r ∙ b)
-        ∙ ap (runFrom setup (budget - (w .done + 1)) (w .done + 1)) (after-ready setup ch (w .tally) (w .slave) (w .master) r e b)
-        ∙ ap
-        (λ (x : Plan).
-        runFrom setup (budget - (w .done + 1)) (w .done + 1)
-        (world (advancedBy setup ch x .channel) (addEntry (w .tally) e) (slaveBy setup ch x (w .slave) (w .master))
-        (masterBy setup ch x (w .slave) (w .master))))
-        is
-        ∙ rw a)
+    told-is : stepIn setup (worldOf w) .answer ≡ advancedBy setup ch p .answer
+    unfolding stepOf
+    told-is = rw plan-is
 
-    ready-after : (s m : ℕ) → s ≡ length (w .slave) → m ≡ length (w .master) → Ready setup (advancedBy setup ch p .channel) s m
-    ready-after s m a b = rw is at (still-ready setup ch (w .tally) (w .slave) (w .master) r s m k a b)
+    next-is : after setup (worldOf w) ≡ worldOf (planned p)
+    unfolding after stepOf slaveAfter masterAfter
+    next-is = rw plan-is
 
-    done-turned : (e : Entry) → advancedBy setup ch p .answer ≡ Done e
+    sound-after : isSound setup (advancedBy setup ch p .channel) ≡ true
+    sound-after = sound-by setup _ (step-sound setup (r .framed) ch k (sound-is setup ch (r .sound)) p is)
+
+    planned-step : ((why : Refusal) → advancedBy setup ch p .answer ≡ NotDone why → (why ≡ refusalBy 6) × (worldOf (planned p) ≡ worldOf w))
         → length (slaveBy setup ch p (w .slave) (w .master)) ≡ length (w .slave) → length (masterBy setup ch p (w .slave) (w .master))
         ≡ length (w .master)
-        → SameWays setup ch (advancedBy setup ch p .channel) → Turned setup budget w (planned p)
-    done-turned e a s m ways =
+        → SameWays setup ch (advancedBy setup ch p .channel) → OneStep setup w (planned p) (advancedBy setup ch p .answer)
+    planned-step stopped s m ways =
         record {
-          same = done-same e a;
-          ready = ready-after _ _ s m;
+          told = told-is;
+          next = next-is;
+          done = refl;
+          full = refl;
+          stopped = stopped;
+          ready = record { framed = r .framed; sound = sound-after; slave = s ∙ r .slave; master = m ∙ r .master };
           shaped = step-shaped setup ch p k;
-          least = rw a (omega (arith, h));
-          grows = rw a (omega arith);
-          more = λ l. inr (rw a (omega arith));
           slave = s;
           master = m;
           ways = ways;
         }
-
-  -- the clock is full
-  full-turned : (why : Refusal) → actPlan setup ch ≡ plan.Refused why → Turned setup budget w (planned (plan.Refused why))
-  unfolding toCome
-  full-turned why is =
-      let c = says setup ch (plan.Refused why) is in
-      record {
-        same =
-            sym
-            (coming
-            ∙ run-stop setup budget (w .done) (worldOf w) h why
-            (answer-ready setup ch (w .tally) (w .slave) (w .master) r ∙ answer-is (plan.Refused why) is)
-            ∙ rw c);
-        ready = r;
-        shaped = k;
-        least = omega (arith, h);
-        grows = omega arith;
-        more = λ l. inl refl;
-        slave = refl;
-        master = refl;
-        ways = λ l o. (o, refl);
-      }
 
   -- what a cycle leaves goes the way of the whole
   rule-request : (x : Channel) (l : ℕ) → requestOf (lineRule x) l ≡ requestOf x l
@@ -184,16 +211,18 @@ module _ (setup : Setup) (budget : ℕ) (w : Running) (f : w .full ≡ false) (h
       let q = after ∙ other setup (r .framed) ch k z o (y .0) (rw (y .1)) (y .2) l (eqb-false l o n) in
       (sym (ap (λ (x : Request). not (eqb (x .left) 0)) q) ∙ some, ap (pathOf setup l) q))
 
-  by-plan : (p : Plan) → actPlan setup ch ≡ p → Turned setup budget w (planned p)
+  by-plan : (p : Plan) → actPlan setup ch ≡ p → OneStep setup w (planned p) (advancedBy setup ch p .answer)
   unfolding grantTurn granted leaveTurn freed cleared timed
-  by-plan plan.Idle is = done-turned plan.Idle is _ refl refl refl (λ l o. (o, refl))
-  by-plan (plan.Refused why) is = full-turned why is
-  by-plan (plan.Grant v) is = done-turned (plan.Grant v) is _ refl refl refl (λ l o. (o, refl))
-  by-plan (plan.Leave o) is = done-turned (plan.Leave o) is _ refl refl refl (λ l q. (q, refl))
+  by-plan plan.Idle is = planned-step plan.Idle is (λ why e. absurd (not-refused e)) refl refl (λ l o. (o, refl))
+  by-plan (plan.Refused why) is =
+      planned-step (plan.Refused why) is (λ x e. (sym (ap reason e) ∙ says setup ch (plan.Refused why) is, refl)) refl refl
+      (λ l o. (o, refl))
+  by-plan (plan.Grant v) is = planned-step (plan.Grant v) is (λ why e. absurd (not-refused e)) refl refl (λ l o. (o, refl))
+  by-plan (plan.Leave o) is = planned-step (plan.Leave o) is (λ why e. absurd (not-refused e)) refl refl (λ l q. (q, refl))
   by-plan (plan.Cycle o) is =
       let n = moved-lengths (pathOf setup o (requestOf ch o)) (requestOf ch o) (w .slave) (w .master)
       (planned-roomy setup ch o (length (w .slave)) (length (w .master)) r is) in
-      done-turned (plan.Cycle o) is _ refl (n .0) (n .1) (cycle-ways o is)
+      planned-step (plan.Cycle o) is (λ why e. absurd (not-refused e)) (n .0) (n .1) (cycle-ways o is)
 
   -- so it is with the step that was decided
   abbrev asStepped : Stepped → Running
@@ -207,11 +236,24 @@ module _ (setup : Setup) (budget : ℕ) (w : Running) (f : w .full ≡ false) (h
         master = masterBy setup ch (actPlan setup ch) (w .slave) (w .master);
       }
 
-  pub one-step : (path : Path)
-      → ((o : ℕ) → ch .phase ≡ Granted o → eqb (getD (ch .left) o 0) 0 ≡ false → path ≡ pathOf setup o (requestOf ch o))
-      → Turned setup budget w (stepRun path w)
-  unfolding stepRun
-  one-step path way =
-      let x = made setup ch (w .tally) _ _ r k path way in
-      let c = carried setup ch (w .slave) (w .master) (actPlan setup ch) in
-      rw (x .1, c .0, c .1) (subst (λ (s : Stepped). Turned setup budget w (asStepped s)) (sym (x .0)) (by-plan (actPlan setup ch) refl))
+  module _ (path : Path)
+      (way : (o : ℕ) → ch .phase ≡ Granted o → eqb (getD (ch .left) o 0) 0 ≡ false → path ≡ pathOf setup o (requestOf ch o)) where
+    pub one-step : OneStep setup w (stepRun path w) (decidedIn path ch (w .tally) .acted .answer)
+    unfolding stepRun
+    one-step =
+        let x = made setup ch (w .tally) _ _ r k path way in
+        let c = carried setup ch (w .slave) (w .master) (actPlan setup ch) in
+        rw (x .1, c .0, c .1)
+        (subst (λ (s : Stepped). OneStep setup w (asStepped s) (s .answer)) (sym (x .0)) (by-plan (actPlan setup ch) refl))
+
+    -- its bytes have room
+    pub room-step : Room (decidedIn path ch (w .tally) .carry) (length (w .slave)) (length (w .master))
+    room-step = rw (made setup ch (w .tally) _ _ r k path way .1) (act-room setup ch (w .slave) (w .master) r)
+
+-- and so some steps of a run lie between
+pub turned-step : (setup : Setup) (budget : ℕ) (w : Running) → w .full ≡ false → w .done < budget
+    → Ready setup (w .channel) (length (w .slave)) (length (w .master)) → Shaped (w .channel) → (path : Path)
+    → ((o : ℕ) → w .channel .phase ≡ Granted o → eqb (getD (w .channel .left) o 0) 0 ≡ false → path
+    ≡ pathOf setup o (requestOf (w .channel) o))
+    → Turned setup budget w (stepRun path w)
+turned-step setup budget w f h r k path way = turned-once setup budget w (stepRun path w) _ f h (one-step setup w r k path way)

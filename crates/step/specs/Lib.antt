@@ -1,5 +1,6 @@
 pub mod Plan
 pub mod Step
 pub mod Run
+pub mod Log
 pub mod Machine
 pub mod Turns

@@ -8,6 +8,7 @@ use lib.ListN.{set, replicate}
 use lib.Dec.{eqb, ltb}
 use Rattle.refusal.specs.Refusal.{refusalBy}
 use Rattle.refusal.specs.declared.Refusal.{Refusal}
+use Rattle.refusal.specs.declared.Verdict.the-variants.{Refused as Stopped}
 use Rattle.cycle.specs.Cycle.{transferTime, masterLane, slaveLane}
 use Rattle.frame.specs.declared.Setup.{Setup}
 use Rattle.channel.specs.declared.Phase.{Phase}
@@ -31,6 +32,8 @@ use Rattle.step.specs.declared.StepAnswer.the-variants.{Done, Refused}
 use Rattle.step.specs.declared.Stepped.{Stepped}
 use Rattle.step.specs.declared.Plan.{Plan}
 use Rattle.step.specs.declared.Decision.{Decision}
+use Rattle.step.specs.declared.Ran.{Ran}
+use Rattle.step.specs.declared.Logged.{Logged}
 use Rattle.step.specs.declared.cycles.After.{After as Left}
 use Rattle.step.specs.declared.acts.Standing.{Standing}
 use Rattle.step.specs.declared.acts.Acted.{Acted}
@@ -231,6 +234,12 @@ decisionBy setup ch t p = record { stepped = tallied t (advancedBy setup ch p); 
 
 abbrev pub refusedDecision : Channel → Tally → Refusal → Decision
 refusedDecision ch t why = record { stepped = record { channel = ch; tally = t; answer = Refused why }; carry = noCarry }
+
+abbrev pub refusedRun : Channel → Tally → Refusal → Ran
+refusedRun ch t why = record { channel = ch; tally = t; steps = 0; verdict = Stopped why }
+
+abbrev pub refusedLog : Channel → Tally → Refusal → ℕ → Logged
+refusedLog ch t why at = record { ran = refusedRun ch t why; past = at }
 
 -- the channel after a decided step
 abbrev pub channelBy : Channel → Decided → List Bool → Channel

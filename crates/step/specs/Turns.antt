@@ -26,12 +26,15 @@ use Rattle.tally.specs.Tally.{addCycle}
 use Rattle.step.specs.declared.StepAnswer.{StepAnswer}
 use Rattle.step.specs.declared.StepAnswer.the-variants.{Done, Refused as NotDone}
 use Rattle.step.specs.declared.acts.Acted.{Acted}
+use Rattle.step.specs.declared.acts.Standing.{Standing}
 use Rattle.step.specs.declared.acts.Decided.{Decided}
+use Rattle.step.specs.declared.logs.Log.{Log}
 use Rattle.step.specs.declared.turns.State.{State}
 use Rattle.step.specs.declared.turns.Tenure.{Tenure}
-use Rattle.step.specs.Step.{Roomy, carryOf, movedSlave, movedMaster}
+use Rattle.step.specs.Step.{Roomy, Room, carryOf, movedSlave, movedMaster}
 use Rattle.step.specs.Run.{World, Out, world, ended, runFrom}
-use Rattle.step.specs.Machine.{NoneAsk, NoneWait, noPath, channelOf, channelBy, standingOf, decidedOf, decidedMarks}
+use Rattle.step.specs.Log.{Page, page, lined, LoggedOut, closed, logFrom}
+use Rattle.step.specs.Machine.{NoneAsk, NoneWait, noPath, channelOf, channelBy, standingOf, decidedOf, decidedMarks, Actable}
 
 -- all that a run changes: the channel, the tally, the stores, the steps done, and whether the next step would pass the clock's limit
 pub record Running : Type 0 where
@@ -42,17 +45,22 @@ pub record Running : Type 0 where
   pub slave : List ℕ
   pub master : List ℕ
 
--- as the program keeps it: the state by value, the channel's arrays, and the stores
-abbrev pub runningOf : State → List Bool → List ℕ → List ℕ → List ℕ → List ℕ → List ℕ → List ℕ → List ℕ → Running
-runningOf state inactive direction space address left offset slave master =
+-- as the program keeps it: what stands by value, the channel's arrays, and the stores
+abbrev pub runningBy
+    : Standing → ℕ → Bool → List Bool → List ℕ → List ℕ → List ℕ → List ℕ → List ℕ → List ℕ → List ℕ → Running
+runningBy standing done full inactive direction space address left offset slave master =
     record {
-      channel = channelOf (state .standing) inactive direction space address left offset;
-      tally = state .standing .tally;
-      done = state .done;
-      full = state .full;
+      channel = channelOf standing inactive direction space address left offset;
+      tally = standing .tally;
+      done = done;
+      full = full;
       slave = slave;
       master = master;
     }
+
+abbrev pub runningOf : State → List Bool → List ℕ → List ℕ → List ℕ → List ℕ → List ℕ → List ℕ → List ℕ → Running
+runningOf state inactive direction space address left offset slave master =
+    runningBy (state .standing) (state .done) (state .full) inactive direction space address left offset slave master
 
 -- a step as it was decided
 abbrev pub steps : StepAnswer → ℕ → ℕ
@@ -202,3 +210,44 @@ pub record Turnable (path : Path) (base low budget : ℕ) (w : Running) : Type 0
   pub going : w .full ≡ false
   pub lows : Lows base low (w .channel)
   pub owned : (o : ℕ) → w .channel .phase ≡ Granted o → Owned path w o
+
+-- a logged run: the run, and the page
+pub record Logging : Type 0 where
+  pub running : Running
+  pub page : Page
+
+abbrev pub loggingOf
+    : Log → List Bool → List ℕ → List ℕ → List ℕ → List ℕ → List ℕ → List ℕ → List ℕ → List ℕ → Logging
+loggingOf log inactive direction space address left offset slave master out =
+    record {
+      running =
+          runningBy (log .standing) (log .done) (log .full) inactive direction space address left offset slave master;
+      page = page out (log .at);
+    }
+
+-- one step of it, and its line
+abbrev pub lineBy : StepAnswer → Page → Page
+lineBy (Done entry) p = lined p entry
+lineBy (NotDone why) p = p
+
+unfoldable pub logStep : Path → Logging → Logging
+logStep path g =
+    record {
+      running = stepRun path (g .running);
+      page = lineBy (decidedIn path (g .running .channel) (g .running .tally) .acted .answer) (g .page);
+    }
+
+-- what is still to come of it
+unfoldable pub logToCome : Setup → ℕ → Logging → LoggedOut
+logToCome setup budget g =
+    cond
+    (g .running .full)
+    (closed (Refused (refusalBy 6)) (g .running .done) (worldOf (g .running)) (g .page))
+    (logFrom setup (budget - g .running .done) (g .running .done) (worldOf (g .running)) (g .page))
+
+-- what a logged step relies on
+pub record Loggable (path : Path) (w : Running) : Type 0 where
+  pub acts : Actable path (standingOf (w .channel) (w .tally)) (requestOf (w .channel) (placeIn (w .channel .phase)))
+  pub room : Room (decidedIn path (w .channel) (w .tally) .carry) (length (w .slave)) (length (w .master))
+  pub place : placeIn (w .channel .phase) < 16
+  pub more : w .done < 65535

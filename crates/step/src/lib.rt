@@ -4,6 +4,7 @@
 // `acts` has what a step does, `cycles` one cycle of an owner, `turns` how a run goes on.
 mod acts;
 mod cycles;
+mod logs;
 mod turns;
 
 use act::Entry;
@@ -20,6 +21,7 @@ use channel::Request;
 use cycles::carry;
 use frame::Setup;
 use frame::Store;
+use logs::log_steps;
 use refusal::Refusal;
 use refusal::Verdict;
 use tally::Tally;
@@ -32,7 +34,8 @@ ghost use Rattle.channel.specs.Channel.{Shaped};
 ghost use Rattle.step.specs.Plan.{ownerPlan, actPlan, readyVerdict, planOf};
 ghost use Rattle.step.specs.Step.{Ready, stepOf, slaveAfter, masterAfter, decisionOf, hasRoom, carriedSlave, carriedMaster};
 ghost use Rattle.step.specs.Run.{world, runBy, runOf};
-ghost use Rattle.step.specs.Machine.{pathFor, decisionBy, refusedDecision};
+ghost use Rattle.step.specs.Log.{page, logBy, logOf};
+ghost use Rattle.step.specs.Machine.{pathFor, decisionBy, refusedDecision, refusedRun};
 
 // What a step is going to do.
 pub enum Plan {
@@ -76,6 +79,12 @@ pub struct Ran {
     pub tally: Tally,
     pub steps: u32,
     pub verdict: Verdict,
+}
+
+// A logged run, and where its lines end.
+pub struct Logged {
+    pub ran: Ran,
+    pub past: usize,
 }
 
 // The plan while a level owns the channel: a cycle of its request, or without one a release or nothing.
@@ -302,6 +311,18 @@ pub fn step(
     stepped
 }
 
+// A refused run gives back the channel and the tally that it got, and did no steps.
+fn refused_run(channel: Channel, tally: Tally, why: Refusal) -> Ran
+    ensures { λ r. ⌜ r ≡ refusedRun channel tally why ⌝ }
+{
+    Ran {
+        channel: channel,
+        tally: tally,
+        steps: 0,
+        verdict: Verdict::Refused(why),
+    }
+}
+
 // A run over a sound channel and stores of the right lengths: refusal 7, or its steps.
 fn run_ready(
     setup: Setup,
@@ -318,12 +339,7 @@ fn run_ready(
         (now (master .entry))) .master ⌝ }
 {
     if 65535 < budget {
-        return Ran {
-            channel: channel,
-            tally: tally,
-            steps: 0,
-            verdict: Verdict::Refused(Refusal::TooManySteps),
-        };
+        return refused_run(channel, tally, Refusal::TooManySteps);
     }
     run_steps(setup, channel, tally, slave, master, budget)
 }
@@ -343,12 +359,69 @@ pub fn run(
 {
     let verdict = ready_verdict(setup, channel, slave.len(), master.len());
     match verdict {
-        Verdict::Refused(why) => Ran {
-            channel: channel,
-            tally: tally,
-            steps: 0,
-            verdict: Verdict::Refused(why),
-        },
+        Verdict::Refused(why) => refused_run(channel, tally, why),
         Verdict::Accepted => run_ready(setup, channel, tally, slave, master, budget),
+    }
+}
+
+// A refused logged run writes nothing.
+fn refused_log(channel: Channel, tally: Tally, why: Refusal, at: usize) -> Logged
+    ensures { λ r. ⌜ r ≡ refusedLog channel tally why at ⌝ }
+{
+    let ran = refused_run(channel, tally, why);
+    Logged { ran: ran, past: at }
+}
+
+// A logged run over a sound channel and stores of the right lengths: refusal 7, or its steps and their lines.
+fn log_ready(
+    setup: Setup,
+    channel: Channel,
+    tally: Tally,
+    slave: &mut [u8],
+    master: &mut [u8],
+    out: &mut [u8],
+    at: usize,
+    budget: u32,
+) -> Logged
+    requires { ⌜ Ready setup channel (length (now slave)) (length (now master)) ⌝ }
+    ensures { λ r. ⌜ r ≡ logBy setup Verdict.Accepted budget (world channel tally (now (slave .entry)) (now (master .entry)))
+        (page (now (out .entry)) at) .result ⌝ }
+    ensures { λ r. ⌜ now (slave .exit) ≡ logBy setup Verdict.Accepted budget (world channel tally (now (slave .entry)) (now (master .entry)))
+        (page (now (out .entry)) at) .slave ⌝ }
+    ensures { λ r. ⌜ now (master .exit) ≡ logBy setup Verdict.Accepted budget (world channel tally (now (slave .entry)) (now (master .entry)))
+        (page (now (out .entry)) at) .master ⌝ }
+    ensures { λ r. ⌜ now (out .exit) ≡ logBy setup Verdict.Accepted budget (world channel tally (now (slave .entry)) (now (master .entry)))
+        (page (now (out .entry)) at) .out ⌝ }
+{
+    if 65535 < budget {
+        return refused_log(channel, tally, Refusal::TooManySteps, at);
+    }
+    log_steps(setup, channel, tally, slave, master, out, at, budget)
+}
+
+// Runs up to `budget` steps and writes the line of each into the lent buffer, from `at` on: refusals 9, 8 and 7, in that order; it
+// stops before a step that meets 6, and before one for whose line there may be no room.
+pub fn log_run(
+    setup: Setup,
+    channel: Channel,
+    tally: Tally,
+    slave: &mut [u8],
+    master: &mut [u8],
+    out: &mut [u8],
+    at: usize,
+    budget: u32,
+) -> Logged
+    ensures { λ r. ⌜ r ≡ logOf setup budget (world channel tally (now (slave .entry)) (now (master .entry))) (page (now (out .entry)) at) .result ⌝ }
+    ensures { λ r. ⌜ now (slave .exit) ≡ logOf setup budget (world channel tally (now (slave .entry)) (now (master .entry)))
+        (page (now (out .entry)) at) .slave ⌝ }
+    ensures { λ r. ⌜ now (master .exit) ≡ logOf setup budget (world channel tally (now (slave .entry)) (now (master .entry)))
+        (page (now (out .entry)) at) .master ⌝ }
+    ensures { λ r. ⌜ now (out .exit) ≡ logOf setup budget (world channel tally (now (slave .entry)) (now (master .entry)))
+        (page (now (out .entry)) at) .out ⌝ }
+{
+    let verdict = ready_verdict(setup, channel, slave.len(), master.len());
+    match verdict {
+        Verdict::Refused(why) => refused_log(channel, tally, why, at),
+        Verdict::Accepted => log_ready(setup, channel, tally, slave, master, out, at, budget),
     }
 }

@@ -279,7 +279,7 @@ fn lowest(left: &[u32; 16]) -> u8
 }
 
 // The paths of the open requests, by level.
-fn paths_of<'a>(
+pub(crate) fn paths_of<'a>(
     setup: Setup,
     direction: &'a [u32; 16],
     space: &'a [u32; 16],
@@ -313,7 +313,7 @@ fn paths_of<'a>(
     paths
 }
 
-fn verdict_of(full: bool) -> Verdict
+pub(crate) fn verdict_of(full: bool) -> Verdict
     ensures { λ r. ⌜ r ≡ verdictIf full ⌝ }
 {
     if full {

@@ -1,9 +1,9 @@
 use Prim.Native.Nat.{ℕ, _+_, _-_, _*_, _≤_}
 use Rattle.logline.proofs.DigitLaws.{digits-most}
-use Rattle.logline.proofs.TextLaws.{fields-more, fields-none, write-more}
+use Rattle.logline.proofs.TextLaws.{room-is, fields-more, fields-none, write-more}
 use Rattle.logline.specs.Text.{digits, field, fieldsFrom, past, written}
 use borrow.Author.Needs.{needs}
-use borrow.Author.Tests.{le-leb, lt-leb}
+use borrow.Author.Tests.{not-true, not-false}
 use lib.ListN.{getD}
 use lib.ListN.{length, set, length-set, length-append}
 use lib.Seq.{sets}
@@ -22,35 +22,35 @@ Inv-loop out₀ at letter count numbers next₀ i₀ out next i =
     × (sets out next (fieldsFrom numbers i (count - i) ++ (10 ∷ [])) ≡ sets out₀ (at + 1) (fieldsFrom numbers 0 count ++ (10 ∷ [])))
     × (next + length (fieldsFrom numbers i (count - i)) ≡ at + 1 + length (fieldsFrom numbers 0 count))
     × (length out ≡ length out₀)
+    × (at + 96 ≤ length out₀)
 
 abbrev μ-loop : tie.MeasureT-loop
 μ-loop out₀ at letter count numbers next₀ i₀ out next i = count - i
 
+has-room-requires : tie.Need-has-room-requires Inv-loop μ-loop
+has-room-requires c κs = tt
+
 returns : tie.Need-returns Inv-loop μ-loop
 unfolding past written
 returns c =
-    let a = c .before .before .args in
-    let e = lt-leb (a .at + 96) (length (a .out .now)) (omega arith) in
-    (rw e, rw e)
-
-sub-if2 : tie.Need-sub-if2 Inv-loop μ-loop
-sub-if2 c = omega arith
-
-returns-2 : tie.Need-returns-2 Inv-loop μ-loop
-unfolding past written
-returns-2 c =
-    let a = c .before .before .before .args in
-    let e = lt-leb (a .at + 96) (length (a .out .now)) (omega arith) in
+    let e = sym (c .before .has-room .ensures) ∙ not-true (c .before .has-room .result) (c .if1 .taken) in
     (rw e, rw e)
 
 slice-write-out : tie.Need-slice-write-out Inv-loop μ-loop
-slice-write-out c = omega arith
+slice-write-out c =
+    let a = c .before .before .before .args in
+    omega (arith, room-is (length (a .out .now)) (a .at) (c .before .has-room .ensures) (c .if1 .left))
 
 add-next : tie.Need-add-next Inv-loop μ-loop
-add-next c = omega arith
+add-next c =
+    let a = c .before .before .before .args in
+    omega (arith, room-is (length (a .out .now)) (a .at) (c .before .has-room .ensures) (c .if1 .left))
 
 loop-holds : tie.Need-loop-holds Inv-loop μ-loop
-loop-holds c = (omega arith, omega arith, rw sub-zero, rw sub-zero, refl)
+loop-holds c =
+    let a = c .before .before .before .args in
+    let room = room-is (length (a .out .now)) (a .at) (c .before .has-room .ensures) (c .if1 .left) in
+    (omega arith, omega arith, rw sub-zero, rw sub-zero, refl, rw length-set room)
 
 mul-put-field : tie.Need-mul-put-field Inv-loop μ-loop
 mul-put-field c = search needs
@@ -61,7 +61,7 @@ array-read-put-field c = omega arith
 put-field-requires : tie.Need-put-field-requires Inv-loop μ-loop
 put-field-requires c κs =
     let l = c .before .before .loop in
-    omega (arith, l .inv .1, simp length-set at (l .inv .4))
+    omega (arith, l .inv .1, l .inv .4, l .inv .5)
 
 add-i : tie.Need-add-i Inv-loop μ-loop
 add-i c = omega arith
@@ -84,24 +84,27 @@ loop-again c =
       rw (k .1, k .0, e) (write-more numbers (l .i) _ (l .next) (l .out) _ (omega arith) (l .inv .2)),
       omega (arith, k .0, m, length-append (field n) rest, l .inv .3),
       c .before .before .put-field .kept .0 ∙ l .inv .4,
+      l .inv .5,
     )
 
 slice-write-out-2 : tie.Need-slice-write-out-2 Inv-loop μ-loop
-slice-write-out-2 c = let l = c .before .loop in omega (arith, simp length-set at (l .inv .4))
+slice-write-out-2 c = let l = c .before .loop in omega (arith, l .inv .4, l .inv .5)
 
 add-result : tie.Need-add-result Inv-loop μ-loop
-add-result c = let l = c .before .loop in omega (arith, simp length-set at (l .inv .4))
+add-result c =
+    let l = c .before .loop in
+    omega (arith, l .inv .1, simp length-set at (l .inv .5))
 
 same-length : tie.Need-same-length Inv-loop μ-loop
 same-length c = let l = c .before .loop in simp length-set (simp length-set at (l .inv .4))
 
-returns-3 : tie.Need-returns-3 Inv-loop μ-loop
+returns-2 : tie.Need-returns-2 Inv-loop μ-loop
 unfolding past written
-returns-3 c =
+returns-2 c =
     let a = c .before .before .before .before .before .args in
     let l = c .before .loop in
     let all = fieldsFrom (a .t4) 0 (a .count) in
-    let e = le-leb (a .at + 96) (length (a .out .now)) (omega arith) in
+    let e = sym (c .before .before .before .has-room .ensures) ∙ not-false _ (c .before .before .if1 .left) in
     let z = fields-none (a .t4) (l .i) (a .count) (omega arith) in (
       rw e (omega (arith, length-append all (10 ∷ []), l .inv .3, ap length z)),
       rw e
@@ -116,9 +119,8 @@ put-line-spec =
     (tie.spec
     Inv-loop
     μ-loop
+    has-room-requires
     returns
-    sub-if2
-    returns-2
     slice-write-out
     add-next
     loop-holds
@@ -131,4 +133,4 @@ put-line-spec =
     slice-write-out-2
     add-result
     same-length
-    returns-3)
+    returns-2)

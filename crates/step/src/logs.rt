@@ -1,0 +1,164 @@
+// A run that logs: step by step, each with its line in a lent buffer, for as long as the longest line has room there. Set-up and
+// channel are tested once and the paths are looked up once, as in a run; a step is decided and carried as the single step is.
+use crate::Logged;
+use crate::Ran;
+use crate::StepAnswer;
+use crate::acts::Standing;
+use crate::acts::act_on;
+use crate::acts::channel_of;
+use crate::acts::place_at;
+use crate::acts::put_slot;
+use crate::acts::slot_at;
+use crate::cycles::carry;
+use crate::turns::paths_of;
+use crate::turns::verdict_of;
+use act::Path;
+use channel::Channel;
+use frame::Setup;
+use tally::Tally;
+ghost use mathlib.Core.Path.{_≡_};
+ghost use Prim.Native.Nat.{_≤_};
+ghost use lib.ListN.{length};
+ghost use Rattle.channel.specs.Channel.{Shaped, placeIn};
+ghost use Rattle.step.specs.Step.{Ready};
+ghost use Rattle.step.specs.Run.{world};
+ghost use Rattle.step.specs.Log.{page, logFrom};
+ghost use Rattle.step.specs.Turns.{runningBy, loggingOf, logStep, Loggable};
+
+// A logged run: what stands after its last step, the steps done, whether the next one would pass the clock's limit, and where
+// the next line goes.
+struct Log {
+    standing: Standing,
+    done: u32,
+    full: bool,
+    at: usize,
+}
+
+// One step, and its line.
+fn log_step(
+    path: Path,
+    place: usize,
+    log: Log,
+    inactive: &mut [bool; 16],
+    direction: &mut [u32; 16],
+    space: &mut [u32; 16],
+    address: &mut [u32; 16],
+    left: &mut [u32; 16],
+    offset: &mut [u32; 16],
+    slave: &mut [u8],
+    master: &mut [u8],
+    out: &mut [u8],
+) -> Log
+    requires { ⌜ place ≡ placeIn (log .standing .phase) ⌝ }
+    requires { ⌜ Loggable path (runningBy (log .standing) (log .done) (log .full) (now inactive) (now direction) (now space) (now address)
+        (now left) (now offset) (now slave) (now master)) ⌝ }
+    ensures { λ r. ⌜ loggingOf r (now (inactive .exit)) (now (direction .exit)) (now (space .exit)) (now (address .exit))
+        (now (left .exit)) (now (offset .exit)) (now (slave .exit)) (now (master .exit)) (now (out .exit))
+        ≡ logStep path (loggingOf log (now (inactive .entry)) (now (direction .entry)) (now (space .entry))
+        (now (address .entry)) (now (left .entry)) (now (offset .entry)) (now (slave .entry)) (now (master .entry)) (now (out .entry))) ⌝ }
+{
+    let standing = log.standing;
+    let request = slot_at(direction, space, address, left, offset, place);
+    let decided = act_on(path, standing, request, left, inactive);
+    let slot = decided.slot;
+    put_slot(direction, space, address, left, offset, place, slot);
+    let what = decided.carry;
+    carry(what, slave, master);
+    let acted = decided.acted;
+    let next = acted.standing;
+    let answer = acted.answer;
+    let StepAnswer::Done(entry) = answer else {
+        return Log {
+            standing: next,
+            done: log.done,
+            full: true,
+            at: log.at,
+        };
+    };
+    let past = logline::put_entry(out, log.at, entry);
+    Log {
+        standing: next,
+        done: log.done + 1,
+        full: false,
+        at: past,
+    }
+}
+
+// Up to `budget` steps of a sound channel over stores of the right lengths, with their lines from `at` on.
+pub(crate) fn log_steps(
+    setup: Setup,
+    channel: Channel,
+    tally: Tally,
+    slave: &mut [u8],
+    master: &mut [u8],
+    out: &mut [u8],
+    at: usize,
+    budget: u32,
+) -> Logged
+    requires { ⌜ Ready setup channel (length (now slave)) (length (now master)) ⌝ }
+    requires { ⌜ Shaped channel ⌝ }
+    requires { ⌜ budget ≤ 65535 ⌝ }
+    ensures { λ r. ⌜ r ≡ logFrom setup budget 0 (world channel tally (now (slave .entry)) (now (master .entry)))
+        (page (now (out .entry)) at) .result ⌝ }
+    ensures { λ r. ⌜ now (slave .exit) ≡ logFrom setup budget 0 (world channel tally (now (slave .entry)) (now (master .entry)))
+        (page (now (out .entry)) at) .slave ⌝ }
+    ensures { λ r. ⌜ now (master .exit) ≡ logFrom setup budget 0 (world channel tally (now (slave .entry)) (now (master .entry)))
+        (page (now (out .entry)) at) .master ⌝ }
+    ensures { λ r. ⌜ now (out .exit) ≡ logFrom setup budget 0 (world channel tally (now (slave .entry)) (now (master .entry)))
+        (page (now (out .entry)) at) .out ⌝ }
+{
+    let phase = channel.phase;
+    let asked = channel.asked;
+    let mut inactive = channel.inactive;
+    let mut direction = channel.direction;
+    let mut space = channel.space;
+    let mut address = channel.address;
+    let mut left = channel.left;
+    let mut offset = channel.offset;
+    let paths = paths_of(setup, &direction, &space, &address, &left, &offset);
+    let standing = Standing {
+        phase: phase,
+        asked: asked,
+        clock: channel.clock,
+        tally: tally,
+    };
+    let mut log = Log {
+        standing: standing,
+        done: 0,
+        full: false,
+        at: at,
+    };
+    while (log.done < budget) & !log.full & logline::has_room(out.len(), log.at) {
+        let now = log.standing;
+        let place = place_at(now);
+        let path = paths[place];
+        log = log_step(
+            path,
+            place,
+            log,
+            &mut inactive,
+            &mut direction,
+            &mut space,
+            &mut address,
+            &mut left,
+            &mut offset,
+            slave,
+            master,
+            out,
+        );
+    }
+    let last = log.standing;
+    let figures = last.tally;
+    let verdict = verdict_of(log.full);
+    let next = channel_of(last, inactive, direction, space, address, left, offset);
+    let ran = Ran {
+        channel: next,
+        tally: figures,
+        steps: log.done,
+        verdict: verdict,
+    };
+    Logged {
+        ran: ran,
+        past: log.at,
+    }
+}
