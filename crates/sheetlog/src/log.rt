@@ -6,15 +6,12 @@ use channel::Channel;
 use frame::Setup;
 use post::Order;
 use refusal::Refusal;
+use refusal::Verdict;
 use sheet::SheetAnswer;
 use sheetlist::Event;
 use sheetlist::PostFields;
-use step::StepAnswer;
 use tally::Tally;
 ghost use Prim.Native.Nat.{_+_, _<_, _≤_};
-
-// Room for the longest line of a log.
-const LINE: usize = 96;
 
 // The channel and the tally as the log goes on, how much of the buffer is filled, and whether a write has failed.
 struct Session {
@@ -41,10 +38,8 @@ fn no_tally() -> Tally {
 
 // Writes what the buffer holds where no other line may fit.
 fn flushed(out: &[u8], filled: usize) -> Kept {
-    if filled <= out.len() {
-        if LINE <= out.len() - filled {
-            return Kept::Filled(filled);
-        }
+    if logline::has_room(out.len(), filled) {
+        return Kept::Filled(filled);
     }
     if write_first(out, filled) {
         Kept::Filled(0)
@@ -88,7 +83,17 @@ fn going(channel: Channel, tally: Tally, filled: usize) -> Session {
     }
 }
 
-// Up to so many steps, each with its line; a step that meets 6 ends the event.
+// The line of an event that ends where the clock is full.
+fn log_stop(channel: Channel, tally: Tally, filled: usize, out: &mut [u8]) -> Session {
+    let kept = flushed(out, filled);
+    let Kept::Filled(at) = kept else {
+        return stopped(channel, tally);
+    };
+    let past = logline::put_stop(out, at, channel.clock);
+    going(channel, tally, past)
+}
+
+// Up to so many steps, each with its line, as many at once as the buffer has room for; a step that meets 6 ends the event.
 fn log_steps(
     setup: Setup,
     session: Session,
@@ -100,22 +105,26 @@ fn log_steps(
     let mut channel = session.channel;
     let mut tally = session.tally;
     let mut filled = session.filled;
-    let mut done: u32 = 0;
-    while done < steps {
+    let mut rest = steps;
+    while 0 < rest {
         let kept = flushed(out, filled);
         let Kept::Filled(at) = kept else {
             return stopped(channel, tally);
         };
-        let next = step::step(setup, channel, tally, slave, master);
-        let answer = next.answer;
-        let StepAnswer::Done(entry) = answer else {
-            let stop = logline::put_stop(out, at, channel.clock);
-            return going(channel, tally, stop);
+        let logged = step::log_run(setup, channel, tally, slave, master, out, at, rest);
+        let ran = logged.ran;
+        channel = ran.channel;
+        tally = ran.tally;
+        filled = logged.past;
+        let verdict = ran.verdict;
+        let Verdict::Accepted = verdict else {
+            return log_stop(channel, tally, filled, out);
         };
-        filled = logline::put_entry(out, at, entry);
-        channel = next.channel;
-        tally = next.tally;
-        done += 1;
+        if ran.steps == 0 {
+            no_room();
+            return stopped(channel, tally);
+        }
+        rest = basics::less(rest, ran.steps);
     }
     going(channel, tally, filled)
 }

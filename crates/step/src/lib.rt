@@ -35,7 +35,7 @@ ghost use Rattle.step.specs.Plan.{ownerPlan, actPlan, readyVerdict, plan
 ghost use Rattle.step.specs.Step.{Ready, stepOf, slaveAfter, masterAfter, decisionOf, hasRoom, carriedSlave, carriedMaster};
 ghost use Rattle.step.specs.Run.{world, runBy, runOf};
 ghost use Rattle.step.specs.Log.{page, logBy, logOf};
-ghost use Rattle.step.specs.Machine.{pathFor, decisionBy, refusedDecision, refusedRun};
+ghost use Rattle.step.specs.Machine.{pathFor, decisionBy, refusedDecision, refusedRun, refusedLog};
 
 // What a step is going to do.
 pub enum Plan {

@@ -11,6 +11,9 @@ ready-verdict-requires c κs = search needs
 enum-known-verdict : tie.Need-enum-known-verdict
 enum-known-verdict c = search needs
 
+refused-run-requires : tie.Need-refused-run-requires
+refused-run-requires c κs = search needs
+
 enum-told : tie.Need-enum-told
 enum-told c = search needs
 
@@ -24,8 +27,8 @@ run-ready-requires c κs =
 returns : tie.Need-returns
 unfolding runOf
 returns c =
-    let e = sym (c .before .before .before .ready-verdict .ensures) ∙ c .before .verdict .given .1 in
-    (rw e, (rw e, rw e))
+    let e = sym (c .before .before .before .before .ready-verdict .ensures) ∙ c .before .before .verdict .given .1 in
+    (rw e (c .refused-run .ensures), (rw e, rw e))
 
 same-length : tie.Need-same-length
 same-length c = search needs
@@ -47,6 +50,7 @@ run-spec =
     (tie.spec
     ready-verdict-requires
     enum-known-verdict
+    refused-run-requires
     enum-told
     run-ready-requires
     returns

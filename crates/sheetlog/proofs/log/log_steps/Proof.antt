@@ -1,4 +1,3 @@
-use Prim.Native.Nat.{_-_}
 use lib.ListN.{length}
 use mathlib.Core.Path.{_≡_, refl, _∙_}
 use native.Mathlib.Omega.{arith}
@@ -7,12 +6,12 @@ use Rattle.sheetlog.proofs.log.log_steps.Statement.{statement}
 use Rattle.sheetlog.proofs.log.log_steps.Tie as tie
 
 abbrev Inv-loop : tie.InvT-loop
-Inv-loop setup slave₀ master₀ out₀ steps channel₀ tally₀ filled₀ done₀ slave master out channel tally filled done =
+Inv-loop setup slave₀ master₀ out₀ steps channel₀ tally₀ filled₀ rest₀ slave master out channel tally filled rest =
     (length slave ≡ length slave₀) × (length master ≡ length master₀) × (length out ≡ length out₀)
 
 abbrev μ-loop : tie.MeasureT-loop
-μ-loop setup slave₀ master₀ out₀ steps channel₀ tally₀ filled₀ done₀ slave master out channel tally filled done =
-    steps - done
+μ-loop setup slave₀ master₀ out₀ steps channel₀ tally₀ filled₀ rest₀ slave master out channel tally filled rest =
+    rest
 
 loop-holds : tie.Need-loop-holds Inv-loop μ-loop
 loop-holds c = (refl, refl, refl)
@@ -41,85 +40,119 @@ same-length-3 c = search needs
 returns : tie.Need-returns Inv-loop μ-loop
 returns c = search needs
 
-step-requires : tie.Need-step-requires Inv-loop μ-loop
-step-requires c κs = search needs
-
-enum-known-answer : tie.Need-enum-known-answer Inv-loop μ-loop
-enum-known-answer c = search needs
+log-run-requires : tie.Need-log-run-requires Inv-loop μ-loop
+log-run-requires c κs = search needs
 
 enum-told-2 : tie.Need-enum-told-2 Inv-loop μ-loop
 enum-told-2 c = search needs
 
-put-stop-requires : tie.Need-put-stop-requires Inv-loop μ-loop
-put-stop-requires c κs = search needs
+enum-told-3 : tie.Need-enum-told-3 Inv-loop μ-loop
+enum-told-3 c = search needs
 
-going-requires : tie.Need-going-requires Inv-loop μ-loop
-going-requires c κs = search needs
+log-stop-requires : tie.Need-log-stop-requires Inv-loop μ-loop
+log-stop-requires c κs = search needs
 
 same-length-4 : tie.Need-same-length-4 Inv-loop μ-loop
 same-length-4 c =
     let five = c .before .before .before .before .before in
     let ten = five .before .before .before .before .before in
-    let twenty = ten .before .before .before .before .before .before .before .before .before .before in
-    ten .before .step .kept .1 .1 .1 .0 ∙ twenty .loop .inv .0
+    let fifteen = ten .before .before .before .before .before in
+    let twenty = fifteen .before .before .before .before .before in
+    let twenty-five = twenty .before .before .before .before .before in
+    fifteen .log-run .kept .1 .1 .1 .0 ∙ twenty-five .loop .inv .0
 
 same-length-5 : tie.Need-same-length-5 Inv-loop μ-loop
 same-length-5 c =
     let five = c .before .before .before .before .before in
     let ten = five .before .before .before .before .before in
-    let twenty = ten .before .before .before .before .before .before .before .before .before .before in
-    ten .before .step .kept .1 .1 .1 .1 .0 ∙ twenty .loop .inv .1
+    let fifteen = ten .before .before .before .before .before in
+    let twenty = fifteen .before .before .before .before .before in
+    let twenty-five = twenty .before .before .before .before .before in
+    fifteen .log-run .kept .1 .1 .1 .1 .0 ∙ twenty-five .loop .inv .1
 
 same-length-6 : tie.Need-same-length-6 Inv-loop μ-loop
 same-length-6 c =
     let five = c .before .before .before .before .before in
     let ten = five .before .before .before .before .before in
-    let twenty = ten .before .before .before .before .before .before .before .before .before .before in
-    c .before .before .before .put-stop .kept .0 ∙ twenty .loop .inv .2
+    let fifteen = ten .before .before .before .before .before in
+    let twenty = fifteen .before .before .before .before .before in
+    let twenty-five = twenty .before .before .before .before .before in
+    c .before .before .log-stop .kept .1 .1 .1 .0 ∙ fifteen .log-run .kept .1 .1 .1 .1 .1 .0 ∙ twenty-five .loop .inv .2
 
 returns-2 : tie.Need-returns-2 Inv-loop μ-loop
 returns-2 c = search needs
 
-put-entry-requires : tie.Need-put-entry-requires Inv-loop μ-loop
-put-entry-requires c κs = search needs
+no-room-requires : tie.Need-no-room-requires Inv-loop μ-loop
+no-room-requires c κs = search needs
 
-add-done : tie.Need-add-done Inv-loop μ-loop
-add-done c =
+stopped-requires-2 : tie.Need-stopped-requires-2 Inv-loop μ-loop
+stopped-requires-2 c κs = search needs
+
+same-length-7 : tie.Need-same-length-7 Inv-loop μ-loop
+same-length-7 c =
     let five = c .before .before .before .before .before in
     let ten = five .before .before .before .before .before in
-    let twenty = ten .before .before .before .before .before .before .before .before .before .before in
-    omega (arith, twenty .before .loop-test .taken, twenty .before .before .before .before .before .before .before .before .fits .steps)
+    let fifteen = ten .before .before .before .before .before in
+    let twenty = fifteen .before .before .before .before .before in
+    let twenty-five = twenty .before .before .before .before .before in
+    fifteen .log-run .kept .1 .1 .1 .0 ∙ twenty-five .loop .inv .0
+
+same-length-8 : tie.Need-same-length-8 Inv-loop μ-loop
+same-length-8 c =
+    let five = c .before .before .before .before .before in
+    let ten = five .before .before .before .before .before in
+    let fifteen = ten .before .before .before .before .before in
+    let twenty = fifteen .before .before .before .before .before in
+    let twenty-five = twenty .before .before .before .before .before in
+    fifteen .log-run .kept .1 .1 .1 .1 .0 ∙ twenty-five .loop .inv .1
+
+same-length-9 : tie.Need-same-length-9 Inv-loop μ-loop
+same-length-9 c =
+    let five = c .before .before .before .before .before in
+    let ten = five .before .before .before .before .before in
+    let fifteen = ten .before .before .before .before .before in
+    let twenty = fifteen .before .before .before .before .before in
+    let twenty-five = twenty .before .before .before .before .before in
+    fifteen .log-run .kept .1 .1 .1 .1 .1 .0 ∙ twenty-five .loop .inv .2
+
+returns-3 : tie.Need-returns-3 Inv-loop μ-loop
+returns-3 c = search needs
+
+less-requires : tie.Need-less-requires Inv-loop μ-loop
+less-requires c κs = search needs
 
 loop-less : tie.Need-loop-less Inv-loop μ-loop
 loop-less c =
     let five = c .before .before .before .before .before in
     let ten = five .before .before .before .before .before in
-    let twenty = ten .before .before .before .before .before .before .before .before .before .before in
-    omega (arith, twenty .before .loop-test .taken)
+    let fifteen = ten .before .before .before .before .before in
+    let twenty = fifteen .before .before .before .before .before in
+    omega (arith, c .less .ensures, c .before .if1 .left, twenty .before .before .before .loop-test .taken)
 
 loop-again : tie.Need-loop-again Inv-loop μ-loop
 loop-again c =
     let five = c .before .before .before .before .before in
     let ten = five .before .before .before .before .before in
-    let twenty = ten .before .before .before .before .before .before .before .before .before .before in
-    let l = twenty .before .before .loop .inv in
-    let s = c .before .before .before .before .before .before .before .before .before .before .before .before .before .step .kept in
-    (s .1 .1 .1 .0 ∙ l .0, s .1 .1 .1 .1 .0 ∙ l .1, c .before .before .before .before .put-entry .kept .0 ∙ l .2)
+    let fifteen = ten .before .before .before .before .before in
+    let twenty = fifteen .before .before .before .before .before in
+    let l = twenty .before .before .before .before .loop .inv in
+    let k = ten .before .before .before .before .log-run .kept in
+    (k .1 .1 .1 .0 ∙ l .0, k .1 .1 .1 .1 .0 ∙ l .1, k .1 .1 .1 .1 .1 .0 ∙ l .2)
 
-going-requires-2 : tie.Need-going-requires-2 Inv-loop μ-loop
-going-requires-2 c κs = search needs
+going-requires : tie.Need-going-requires Inv-loop μ-loop
+going-requires c κs = search needs
 
-same-length-7 : tie.Need-same-length-7 Inv-loop μ-loop
-same-length-7 c = search needs
+same-length-10 : tie.Need-same-length-10 Inv-loop μ-loop
+same-length-10 c = c .before .before .loop .inv .0
 
-same-length-8 : tie.Need-same-length-8 Inv-loop μ-loop
-same-length-8 c = search needs
+same-length-11 : tie.Need-same-length-11 Inv-loop μ-loop
+same-length-11 c = c .before .before .loop .inv .1
 
-same-length-9 : tie.Need-same-length-9 Inv-loop μ-loop
-same-length-9 c = search needs
+same-length-12 : tie.Need-same-length-12 Inv-loop μ-loop
+same-length-12 c = c .before .before .loop .inv .2
 
-returns-3 : tie.Need-returns-3 Inv-loop μ-loop
-returns-3 c = search needs
+returns-4 : tie.Need-returns-4 Inv-loop μ-loop
+returns-4 c = search needs
 
 pub log-steps-spec : {M : Type 1} → statement M
 log-steps-spec =
@@ -136,21 +169,25 @@ log-steps-spec =
     same-length-2
     same-length-3
     returns
-    step-requires
-    enum-known-answer
+    log-run-requires
     enum-told-2
-    put-stop-requires
-    going-requires
+    enum-told-3
+    log-stop-requires
     same-length-4
     same-length-5
     same-length-6
     returns-2
-    put-entry-requires
-    add-done
-    loop-less
-    loop-again
-    going-requires-2
+    no-room-requires
+    stopped-requires-2
     same-length-7
     same-length-8
     same-length-9
-    returns-3)
+    returns-3
+    less-requires
+    loop-less
+    loop-again
+    going-requires
+    same-length-10
+    same-length-11
+    same-length-12
+    returns-4)

@@ -1,73 +1,111 @@
+use mathlib.Core.Path.{_∙_}
+use native.Mathlib.Omega.{arith}
+use Rattle.step.proofs.LogLaws.{acts-at, room-at, log-done, log-full}
 use borrow.Author.Needs.{needs}
 use Rattle.step.proofs.logs.log_step.Statement.{statement}
 use Rattle.step.proofs.logs.log_step.Tie as tie
-use Rattle.step.proofs.logs.log_step.Reads as reads
-use Rattle.step.proofs.logs.log_step.Lts as lts
-use Rattle.logline.proofs.put_entry.Reads as put-entry-reads
-use Rattle.step.proofs.acts.act_on.Reads as act-on-reads
-use Rattle.step.proofs.acts.put_slot.Reads as put-slot-reads
-use Rattle.step.proofs.acts.slot_at.Reads as slot-at-reads
-use Rattle.step.proofs.cycles.carry.Reads as carry-reads
 
--- src/logs.rt:61:9
 slot-at-requires : tie.Need-slot-at-requires
-slot-at-requires c κs = search needs
+slot-at-requires c κs =
+    let five = c .before .before .before .before .before in
+    let p = five .before .before .before .before .pre in
+    rw (p .0) (p .1 .place)
 
--- src/logs.rt:62:9
 act-on-requires : tie.Need-act-on-requires
-act-on-requires c κs = ?
+act-on-requires c κs =
+    let five = c .before .before .before .before .before in
+    let ten = five .before .before .before .before .before in
+    let p = ten .before .before .pre in
+    acts-at _ _ (p .1) _ (p .0) _ (c .before .before .slot-at .ensures)
 
--- src/logs.rt:64:5
 put-slot-requires : tie.Need-put-slot-requires
-put-slot-requires c κs = ?
+put-slot-requires c κs =
+    let five = c .before .before .before .before .before in
+    let ten = five .before .before .before .before .before in
+    let fifteen = ten .before .before .before .before .before in
+    let p = fifteen .before .before .before .before .pre in
+    rw (p .0) (p .1 .place)
 
--- src/logs.rt:66:5
 carry-requires : tie.Need-carry-requires
-carry-requires c κs = ?
+carry-requires c κs =
+    let five = c .before .before .before .before .before in
+    let ten = five .before .before .before .before .before in
+    let fifteen = ten .before .before .before .before .before in
+    let twenty = fifteen .before .before .before .before .before in
+    let p = twenty .before .before .before .pre in
+    room-at _ _ (p .1) _ (p .0) _ (ten .before .before .before .slot-at .ensures) _ (ten .act-on .ensures .0)
 
--- src/logs.rt:70:26
 enum-known-answer : tie.Need-enum-known-answer
 enum-known-answer c = search needs
 
--- src/logs.rt:71:9
 enum-told : tie.Need-enum-told
 enum-told c = search needs
 
--- src/logs.rt:71:9
 same-length : tie.Need-same-length
 same-length c = search needs
 
--- src/logs.rt:71:9
 same-length-2 : tie.Need-same-length-2
 same-length-2 c = search needs
 
--- src/logs.rt:71:9
 returns : tie.Need-returns
-returns c = ?
+returns c =
+    let five = c .before .before .before .before .before in
+    let ten = five .before .before .before .before .before in
+    let fifteen = ten .before .before .before .before .before in
+    let twenty = fifteen .before .before .before .before .before in
+    let twenty-five = twenty .before .before .before .before .before in
+    let thirty = twenty-five .before .before .before .before .before in
+    let a = thirty .before .before .args in
+    let p = thirty .before .before .pre in
+    let d = fifteen .before .before .before .before .act-on .ensures in
+    let slots = ten .before .before .put-slot .ensures in
+    let k = five .before .before .before .carry .ensures in
+    rw (slots .0, slots .1 .0, slots .1 .1 .0, slots .1 .1 .1 .0, slots .1 .1 .1 .1)
+    (log-full (a .path) (a .log) (a .inactive .now) (a .direction .now) (a .space .now) (a .address .now) (a .left .now)
+    (a .offset .now) (a .slave .now) (a .master .now) (a .out .now) _ (p .0) _ (twenty .before .before .slot-at .ensures)
+    _ _ (d .0) (d .1) _ _ (k .0, k .1) _ (c .enum-told .given .1))
 
--- src/logs.rt:78:9
 put-entry-requires : tie.Need-put-entry-requires
 put-entry-requires c κs = search needs
 
--- src/logs.rt:81:15
 add-t42 : tie.Need-add-t42
-add-t42 c = ?
+add-t42 c =
+    let five = c .before .before .before .before .before in
+    let ten = five .before .before .before .before .before in
+    let fifteen = ten .before .before .before .before .before in
+    let twenty = fifteen .before .before .before .before .before in
+    let twenty-five = twenty .before .before .before .before .before in
+    let thirty = twenty-five .before .before .before .before .before in
+    let thirty-five = thirty .before .before .before .before .before in
+    omega (arith, thirty-five .before .before .before .pre .1 .more)
 
--- src/logs.rt:38:1
 same-length-3 : tie.Need-same-length-3
 same-length-3 c = search needs
 
--- src/logs.rt:38:1
 same-length-4 : tie.Need-same-length-4
 same-length-4 c = search needs
 
--- src/logs.rt:38:1
 same-length-5 : tie.Need-same-length-5
 same-length-5 c = search needs
 
--- src/logs.rt:38:1
 returns-2 : tie.Need-returns-2
-returns-2 c = ?
+returns-2 c =
+    let five = c .before .before .before .before .before in
+    let ten = five .before .before .before .before .before in
+    let fifteen = ten .before .before .before .before .before in
+    let twenty = fifteen .before .before .before .before .before in
+    let twenty-five = twenty .before .before .before .before .before in
+    let thirty = twenty-five .before .before .before .before .before in
+    let thirty-five = thirty .before .before .before .before .before in
+    let a = thirty-five .before .before .before .args in
+    let p = thirty-five .before .before .before .pre in
+    let d = twenty-five .act-on .ensures in
+    let slots = fifteen .before .before .before .put-slot .ensures in
+    let k = ten .before .before .before .before .carry .ensures in
+    rw (slots .0, slots .1 .0, slots .1 .1 .0, slots .1 .1 .1 .0, slots .1 .1 .1 .1)
+    (log-done (a .path) (a .log) (a .inactive .now) (a .direction .now) (a .space .now) (a .address .now) (a .left .now)
+    (a .offset .now) (a .slave .now) (a .master .now) (a .out .now) _ (p .0) _ (twenty-five .before .before .before .slot-at .ensures)
+    _ _ (d .0) (d .1) _ _ (k .0, k .1) _ _ _ (five .before .answer .given .1) (c .before .before .before .put-entry .ensures .0) (c .before .before .before .put-entry .ensures .1))
 
 pub log-step-spec : {M : Type 1} → statement M
 log-step-spec =

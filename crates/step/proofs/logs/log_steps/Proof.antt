@@ -1,81 +1,153 @@
+use mathlib.Core.Path.{_≡_, refl, sym, ap, _∙_}
+use native.Mathlib.Omega.{arith}
+use lib.ListN.{length}
+use Rattle.frame.specs.declared.Setup.{Setup}
+use Rattle.step.specs.Log.{LoggedOut}
+use Rattle.step.specs.Turns.{loggingOf}
+use Rattle.step.proofs.GoingLaws.{Going, place-below, loggable, nearness, nearer}
+use Rattle.step.proofs.LogLaws.{Logs, logs-first, goes, logs-on, logs-more, log-finished, log-first}
 use Rattle.step.proofs.logs.log_steps.Statement.{statement}
 use Rattle.step.proofs.logs.log_steps.Tie as tie
-use Rattle.step.proofs.logs.log_steps.Reads as reads
-use Rattle.step.proofs.logs.log_steps.Lts as lts
-use Rattle.logline.proofs.has_room.Reads as has-room-reads
-use Rattle.step.proofs.acts.channel_of.Reads as channel-of-reads
-use Rattle.step.proofs.acts.place_at.Reads as place-at-reads
-use Rattle.step.proofs.logs.log_step.Reads as log-step-reads
-use Rattle.step.proofs.turns.paths_of.Reads as paths-of-reads
-use Rattle.step.proofs.turns.verdict_of.Reads as verdict-of-reads
 
 abbrev Inv-loop : tie.InvT-loop
-Inv-loop slave₀ master₀ out₀ at budget inactive₀ direction₀ space₀ address₀ left₀ offset₀ paths log₀ slave master out inactive direction space address left offset log =
-    ?
+Inv-loop slave₀ master₀ out₀ at budget inactive₀ direction₀ space₀ address₀ left₀ offset₀ paths log₀ slave master out inactive direction
+    space address left offset log =
+    (length slave ≡ length slave₀)
+    × (length master ≡ length master₀)
+    × (length out ≡ length out₀)
+    × ((setup : Setup)
+    → Going setup paths (loggingOf log₀ inactive₀ direction₀ space₀ address₀ left₀ offset₀ slave₀ master₀ out₀ .running)
+    → Logs setup budget paths (loggingOf log₀ inactive₀ direction₀ space₀ address₀ left₀ offset₀ slave₀ master₀ out₀)
+    (loggingOf log inactive direction space address left offset slave master out))
 
 abbrev μ-loop : tie.MeasureT-loop
-μ-loop slave₀ master₀ out₀ at budget inactive₀ direction₀ space₀ address₀ left₀ offset₀ paths log₀ slave master out inactive direction space address left offset log =
-    ?
+μ-loop slave₀ master₀ out₀ at budget inactive₀ direction₀ space₀ address₀ left₀ offset₀ paths log₀ slave master out inactive direction
+    space address left offset log =
+    nearness budget (log .full) (log .done)
 
--- src/logs.rt:118:17
 paths-of-requires : tie.Need-paths-of-requires Inv-loop μ-loop
-paths-of-requires c κs = ?
+paths-of-requires c κs = tt
 
--- src/logs.rt:131:5
 loop-holds : tie.Need-loop-holds Inv-loop μ-loop
-loop-holds c = ?
+loop-holds c = (refl, refl, refl, λ setup g. logs-first setup _ _ _ refl g)
 
--- src/logs.rt:131:45
 has-room-requires : tie.Need-has-room-requires Inv-loop μ-loop
-has-room-requires c κs = ?
+has-room-requires c κs = tt
 
--- src/logs.rt:133:13
 place-at-requires : tie.Need-place-at-requires Inv-loop μ-loop
-place-at-requires c κs = ?
+place-at-requires c κs = tt
 
--- src/logs.rt:134:20
 mul-path : tie.Need-mul-path Inv-loop μ-loop
-mul-path c = ?
+mul-path c =
+    let five = c .before .before .before .before .before in
+    let ten = five .before .before .before .before .before in
+    let fifteen = ten .before .before .before .before .before in
+    let twenty = fifteen .before .before .before .before .before in
+    let s = twenty .before .before in
+    let l = five .before .loop in
+    let logs = l .inv .3 (s .args .setup)
+    (record { ready = s .pre .0; shaped = s .pre .1 .0; routed = five .before .before .paths-of .ensures }) in
+    omega (arith, place-below _ _ _ (logs .going), c .place-at .ensures)
 
--- src/logs.rt:134:20
 array-copy-out-path : tie.Need-array-copy-out-path Inv-loop μ-loop
-array-copy-out-path c = ?
+array-copy-out-path c =
+    let five = c .before .before .before .before .before in
+    let ten = five .before .before .before .before .before in
+    let fifteen = ten .before .before .before .before .before in
+    let twenty = fifteen .before .before .before .before .before in
+    let s = twenty .before .before in
+    let l = five .before .loop in
+    let logs = l .inv .3 (s .args .setup)
+    (record { ready = s .pre .0; shaped = s .pre .1 .0; routed = five .before .before .paths-of .ensures }) in
+    rw (c .place-at .ensures) (place-below _ _ _ (logs .going))
 
--- src/logs.rt:135:9
 log-step-requires : tie.Need-log-step-requires Inv-loop μ-loop
-log-step-requires c κs = ?
+log-step-requires c κs =
+    let five = c .before .before .before .before .before in
+    let ten = five .before .before .before .before .before in
+    let fifteen = ten .before .before .before .before .before in
+    let twenty = fifteen .before .before .before .before .before in
+    let twenty-five = twenty .before .before .before .before .before in
+    let thirty = twenty-five .before .before .before .before .before in
+    let s = thirty .before .before in
+    let l = fifteen .before .loop in
+    let logs = l .inv .3 (s .args .setup)
+    (record { ready = s .pre .0; shaped = s .pre .1 .0; routed = fifteen .before .before .paths-of .ensures }) in
+    let more = goes (l .log .done) (s .args .budget) (l .log .full) _ (ten .before .before .if1 .taken) in
+    let here = ten .place-at .ensures in
+    (here, rw here (loggable _ _ _ (logs .going) (omega (arith, more .0, s .pre .1 .1))))
 
--- src/logs.rt:131:5
 loop-less : tie.Need-loop-less Inv-loop μ-loop
-loop-less c = ?
+loop-less c =
+    let five = c .before .before .before .before .before in
+    let ten = five .before .before .before .before .before in
+    let fifteen = ten .before .before .before .before .before in
+    let twenty = fifteen .before .before .before .before .before in
+    let twenty-five = twenty .before .before .before .before .before in
+    let thirty = twenty-five .before .before .before .before .before in
+    let thirty-five = thirty .before .before .before .before .before in
+    let s = thirty-five .before .before .before .before in
+    let l = twenty .before .before .before .loop in
+    let logs = l .inv .3 (s .args .setup)
+    (record { ready = s .pre .0; shaped = s .pre .1 .0; routed = twenty .before .before .before .before .paths-of .ensures }) in
+    let more = goes (l .log .done) (s .args .budget) (l .log .full) _ (fifteen .before .before .before .before .if1 .taken) in
+    nearer _ _ _ _ _ (more .1) (more .0)
+    (logs-more _ _ _ _ _ logs (more .0) (more .1) (sym (twenty .has-room .ensures) ∙ more .2) _ (fifteen .before .before .place-at .ensures) _ (five .before .log-step .ensures))
 
--- src/logs.rt:131:5
 loop-again : tie.Need-loop-again Inv-loop μ-loop
-loop-again c = ?
+loop-again c =
+    let five = c .before .before .before .before .before in
+    let ten = five .before .before .before .before .before in
+    let fifteen = ten .before .before .before .before .before in
+    let twenty = fifteen .before .before .before .before .before in
+    let twenty-five = twenty .before .before .before .before .before in
+    let thirty = twenty-five .before .before .before .before .before in
+    let thirty-five = thirty .before .before .before .before .before in
+    let s = thirty-five .before .before .before .before in
+    let l = twenty .before .before .before .loop in
+    let more = goes (l .log .done) (s .args .budget) (l .log .full) _ (fifteen .before .before .before .before .if1 .taken) in
+    let n = five .before .log-step .kept .1 .1 .1 .1 .1 .1 .1 .1 .1 in (
+      n .0 ∙ l .inv .0,
+      n .1 .0 ∙ l .inv .1,
+      n .1 .1 .0 ∙ l .inv .2,
+      λ setup first.
+          logs-on setup _ _ _ _ (l .inv .3 setup first) (more .0) (more .1) (sym (twenty .has-room .ensures) ∙ more .2) _
+          (fifteen .before .before .place-at .ensures) _ (five .before .log-step .ensures),
+    )
 
--- src/logs.rt:152:9
 verdict-of-requires : tie.Need-verdict-of-requires Inv-loop μ-loop
-verdict-of-requires c κs = ?
+verdict-of-requires c κs = tt
 
--- src/logs.rt:153:9
 channel-of-requires : tie.Need-channel-of-requires Inv-loop μ-loop
-channel-of-requires c κs = ?
+channel-of-requires c κs = tt
 
--- src/logs.rt:88:1
 same-length : tie.Need-same-length Inv-loop μ-loop
-same-length c = ?
+same-length c = c .before .before .before .before .before .before .before .before .loop .inv .0
 
--- src/logs.rt:88:1
 same-length-2 : tie.Need-same-length-2 Inv-loop μ-loop
-same-length-2 c = ?
+same-length-2 c = c .before .before .before .before .before .before .before .before .loop .inv .1
 
--- src/logs.rt:88:1
 same-length-3 : tie.Need-same-length-3 Inv-loop μ-loop
-same-length-3 c = ?
+same-length-3 c = c .before .before .before .before .before .before .before .before .loop .inv .2
 
--- src/logs.rt:88:1
 returns : tie.Need-returns Inv-loop μ-loop
-returns c = ?
+returns c =
+    let five = c .before .before .before .before .before in
+    let ten = five .before .before .before .before .before in
+    let fifteen = ten .before .before .before .before .before in
+    let twenty = fifteen .before .before .before .before .before in
+    let s = twenty .before .before .before .before in
+    let l = five .before .before .before .loop in
+    let logs = l .inv .3 (s .args .setup)
+    (record { ready = s .pre .0; shaped = s .pre .1 .0; routed = five .before .before .before .before .paths-of .ensures }) in
+    let e = sym (log-finished _ _ _ _ (five .has-room .ensures) (c .before .before .before .before .if1 .left) (logs .least)) ∙ logs .same
+    ∙ log-first _ _ _ refl refl in (
+      rw (c .channel-of .ensures, c .before .verdict-of .ensures) (ap (λ (x : LoggedOut). x .result) e),
+      (
+        ap (λ (x : LoggedOut). x .slave) e,
+        (ap (λ (x : LoggedOut). x .master) e, ap (λ (x : LoggedOut). x .out) e),
+      ),
+    )
 
 pub log-steps-spec : {M : Type 1} → statement M
 log-steps-spec =

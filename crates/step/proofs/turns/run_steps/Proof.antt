@@ -5,10 +5,22 @@ use lib.ListN.{length}
 use lib.Dec.{ltb}
 use Rattle.basics.proofs.Tests.{and-left, and-right}
 use Rattle.frame.specs.declared.Setup.{Setup}
-use Rattle.channel.specs.Channel.{Shaped}
 use Rattle.step.specs.Run.{Out}
 use Rattle.step.specs.Turns.{runningOf, Lows}
-use Rattle.step.proofs.GoingLaws.{Going, go-on, turnable, turned-by, place-below, nearness, nearer, start-going, start-lows, finished, first-come}
+use Rattle.step.proofs.GoingLaws.{
+  Going,
+  Runs,
+  runs-on,
+  runs-first,
+  turnable,
+  turned-by,
+  place-below,
+  nearness,
+  nearer,
+  start-lows,
+  finished,
+  first-come,
+}
 use Rattle.step.proofs.turns.run_steps.Statement.{statement}
 use Rattle.step.proofs.turns.run_steps.Tie as tie
 
@@ -17,12 +29,10 @@ Inv-loop slave₀ master₀ budget inactive₀ direction₀ space₀ address₀ 
     address left offset state =
     (length slave ≡ length slave₀)
     × (length master ≡ length master₀)
-    × Shaped (runningOf state₀ inactive₀ direction₀ space₀ address₀ left₀ offset₀ slave₀ master₀ .channel)
     × Lows base (state .low) (runningOf state inactive direction space address left offset slave master .channel)
     × ((setup : Setup)
-    → Going setup budget paths (runningOf state₀ inactive₀ direction₀ space₀ address₀ left₀ offset₀ slave₀ master₀)
-    (runningOf state₀ inactive₀ direction₀ space₀ address₀ left₀ offset₀ slave₀ master₀)
-    → Going setup budget paths (runningOf state₀ inactive₀ direction₀ space₀ address₀ left₀ offset₀ slave₀ master₀)
+    → Going setup paths (runningOf state₀ inactive₀ direction₀ space₀ address₀ left₀ offset₀ slave₀ master₀)
+    → Runs setup budget paths (runningOf state₀ inactive₀ direction₀ space₀ address₀ left₀ offset₀ slave₀ master₀)
     (runningOf state inactive direction space address left offset slave master))
 
 abbrev μ-loop : tie.MeasureT-loop
@@ -43,7 +53,7 @@ loop-holds c =
     let fifteen = ten .before .before .before .before .before in
     let s = fifteen .before in
     let low = c .lowest .ensures in
-    (refl, refl, s .pre .1 .0, start-lows (s .args .setup) (s .args .channel) _ _ _ (s .pre .0) (low .0) (low .1), λ setup g. g)
+    (refl, refl, start-lows (s .args .setup) (s .args .channel) _ _ _ (s .pre .0) (low .0) (low .1), λ setup g. runs-first setup _ _ _ refl g)
 
 place-at-requires : tie.Need-place-at-requires Inv-loop μ-loop
 place-at-requires c κs = tt
@@ -56,13 +66,9 @@ mul-path c =
     let twenty = fifteen .before .before .before .before .before in
     let s = twenty .before .before in
     let l = five .loop in
-    let first = start-going (s .args .setup) (s .args .budget) (five .before .before .before .paths-of .result) (s .args .channel)
-    (s .args .tally) (s .args .slave .now)
-    (s .args .master .now) (s .pre .0) (l .inv .2) (five .before .before .before .paths-of .ensures) in
-    let going = l .inv .4 (s .args .setup) first in
-    let more = ltb-true (l .state .done) (s .args .budget) (and-left _ _ (c .before .before .if1 .taken)) in
-    let open-yet = not-true (l .state .full) (and-right (ltb (l .state .done) (s .args .budget)) _ (c .before .before .if1 .taken)) in
-    omega (arith, place-below _ _ _ _ _ going open-yet more, c .place-at .ensures)
+    let runs = l .inv .3 (s .args .setup)
+    (record { ready = s .pre .0; shaped = s .pre .1 .0; routed = five .before .before .before .paths-of .ensures }) in
+    omega (arith, place-below _ _ _ (runs .going), c .place-at .ensures)
 
 array-copy-out-path : tie.Need-array-copy-out-path Inv-loop μ-loop
 array-copy-out-path c =
@@ -72,13 +78,9 @@ array-copy-out-path c =
     let twenty = fifteen .before .before .before .before .before in
     let s = twenty .before .before in
     let l = five .loop in
-    let first = start-going (s .args .setup) (s .args .budget) (five .before .before .before .paths-of .result) (s .args .channel)
-    (s .args .tally) (s .args .slave .now)
-    (s .args .master .now) (s .pre .0) (l .inv .2) (five .before .before .before .paths-of .ensures) in
-    let going = l .inv .4 (s .args .setup) first in
-    let more = ltb-true (l .state .done) (s .args .budget) (and-left _ _ (c .before .before .if1 .taken)) in
-    let open-yet = not-true (l .state .full) (and-right (ltb (l .state .done) (s .args .budget)) _ (c .before .before .if1 .taken)) in
-    rw (c .place-at .ensures) (place-below _ _ _ _ _ going open-yet more)
+    let runs = l .inv .3 (s .args .setup)
+    (record { ready = s .pre .0; shaped = s .pre .1 .0; routed = five .before .before .before .paths-of .ensures }) in
+    rw (c .place-at .ensures) (place-below _ _ _ (runs .going))
 
 turn-requires : tie.Need-turn-requires Inv-loop μ-loop
 turn-requires c κs =
@@ -90,13 +92,11 @@ turn-requires c κs =
     let thirty = twenty-five .before .before .before .before .before in
     let s = thirty .before in
     let l = ten .before .before .before .before .loop in
-    let first = start-going (s .args .setup) (s .args .budget) (fifteen .before .before .paths-of .result) (s .args .channel)
-    (s .args .tally) (s .args .slave .now)
-    (s .args .master .now) (s .pre .0) (l .inv .2) (fifteen .before .before .paths-of .ensures) in
-    let going = l .inv .4 (s .args .setup) first in
+    let runs = l .inv .3 (s .args .setup)
+    (record { ready = s .pre .0; shaped = s .pre .1 .0; routed = fifteen .before .before .paths-of .ensures }) in
     let more = ltb-true (l .state .done) (s .args .budget) (and-left _ _ (ten .before .if1 .taken)) in
     let open-yet = not-true (l .state .full) (and-right (ltb (l .state .done) (s .args .budget)) _ (ten .before .if1 .taken)) in
-    rw (five .before .before .before .before .place-at .ensures) (turnable _ _ _ _ _ going open-yet more _ _ (s .pre .1 .1) (l .inv .3))
+    rw (five .before .before .before .before .place-at .ensures) (turnable _ _ _ _ (runs .going) open-yet more _ _ (s .pre .1 .1) (l .inv .2))
 
 loop-less : tie.Need-loop-less Inv-loop μ-loop
 loop-less c =
@@ -109,13 +109,11 @@ loop-less c =
     let thirty-five = thirty .before .before .before .before .before in
     let s = thirty-five .before in
     let l = fifteen .before .before .before .before .loop in
-    let first = start-going (s .args .setup) (s .args .budget) (twenty .before .before .paths-of .result) (s .args .channel)
-    (s .args .tally) (s .args .slave .now)
-    (s .args .master .now) (s .pre .0) (l .inv .2) (twenty .before .before .paths-of .ensures) in
-    let going = l .inv .4 (s .args .setup) first in
+    let runs = l .inv .3 (s .args .setup)
+    (record { ready = s .pre .0; shaped = s .pre .1 .0; routed = twenty .before .before .paths-of .ensures }) in
     let more = ltb-true (l .state .done) (s .args .budget) (and-left _ _ (fifteen .before .if1 .taken)) in
     let open-yet = not-true (l .state .full) (and-right (ltb (l .state .done) (s .args .budget)) _ (fifteen .before .if1 .taken)) in
-    let later = turned-by _ _ _ _ _ going open-yet more _ _ (ten .before .before .before .before .place-at .ensures)
+    let later = turned-by _ _ _ _ (runs .going) open-yet more _ _ (ten .before .before .before .before .place-at .ensures)
     (c .before .before .before .before .turn .ensures .0) in
     nearer _ _ _ _ _ open-yet more (later .more more)
 
@@ -135,11 +133,10 @@ loop-again c =
     let n = c .before .before .before .before .turn .kept .1 .1 .1 .1 .1 .1 .1 .1 .1 in (
       n .0 ∙ l .inv .0,
       n .1 .0 ∙ l .inv .1,
-      l .inv .2,
       c .before .before .before .before .turn .ensures .1,
       λ setup first.
-          let going = l .inv .4 setup first in
-          go-on setup _ _ _ _ _ going (turned-by setup _ _ _ _ going open-yet more _ _
+          let runs = l .inv .3 setup first in
+          runs-on setup _ _ _ _ _ runs (turned-by setup _ _ _ (runs .going) open-yet more _ _
           (ten .before .before .before .before .place-at .ensures) (c .before .before .before .before .turn .ensures .0)),
     )
 
@@ -167,11 +164,9 @@ returns c =
     let twenty = fifteen .before .before .before .before .before in
     let s = twenty .before .before .before .before in
     let l = five .before .before .loop in
-    let first = start-going (s .args .setup) (s .args .budget) (ten .paths-of .result) (s .args .channel) (s .args .tally)
-    (s .args .slave .now)
-    (s .args .master .now) (s .pre .0) (l .inv .2) (ten .paths-of .ensures) in
-    let going = l .inv .4 (s .args .setup) first in
-    let e = sym (finished _ _ _ (c .before .before .before .before .if1 .left) (going .least)) ∙ going .same
+    let runs = l .inv .3 (s .args .setup)
+    (record { ready = s .pre .0; shaped = s .pre .1 .0; routed = ten .paths-of .ensures }) in
+    let e = sym (finished _ _ _ (c .before .before .before .before .if1 .left) (runs .least)) ∙ runs .same
     ∙ first-come _ _ _ refl refl in (
       rw (c .channel-of .ensures, c .before .verdict-of .ensures) (ap (λ (x : Out). x .result) e),
       (ap (λ (x : Out). x .slave) e, ap (λ (x : Out). x .master) e),
