@@ -28,13 +28,14 @@ use Rattle.sound.specs.Sound.{clockLimit, isSound}
 use Rattle.sound.proofs.SoundFacts.{sound-is}
 use Rattle.sound.proofs.RequestFacts.{fits-is, slave-facts-of}
 use Rattle.act.specs.declared.Path.{Path}
-use Rattle.act.specs.Cycle.{pathOf}
-use Rattle.act.specs.Turn.{arbitrationTime}
+use Rattle.act.specs.Cycle.{pathOf, cycleEntry, cycleTurn}
+use Rattle.act.specs.Turn.{arbitrationTime, grantTurn, leaveTurn}
 use Rattle.step.specs.declared.Plan.{Plan}
 use Rattle.step.specs.declared.Plan.the-variants.{Idle, Refused, Grant, Leave, Cycle}
 use Rattle.step.specs.Plan.{timed, ownerPlan, phasePlan, actPlan, readyVerdict, planBy, planOf}
 use Rattle.step.specs.declared.StepAnswer.the-variants.{Refused as NotDone}
 use Rattle.step.specs.declared.Carry.{Carry}
+use Rattle.step.specs.Machine.{planIn}
 use Rattle.step.specs.Step.{Ready, Roomy, Room, advancedBy, carryOf, movedSlave, movedMaster, slaveBy, masterBy}
 
 -- what is known where a plan was made
@@ -124,6 +125,13 @@ ready-is setup ch slave master e =
       master = eqb-true master _ (and-right (eqb slave (slaveStoreLength (setup .slaves))) _ eight);
     }
 
+-- and so an act may rely on it, whatever its stores
+pub ready-act : (setup : Setup) (ch : Channel) (slave master : ℕ) → readyVerdict setup ch slave master ≡ Accepted
+    → Ready setup ch (slaveStoreLength (setup .slaves)) (setup .master)
+ready-act setup ch slave master e =
+    let r = ready-is setup ch slave master e in
+    record { framed = r .framed; sound = r .sound; slave = refl; master = refl }
+
 pub ready-by : (setup : Setup) (ch : Channel) (slave master : ℕ) → Ready setup ch slave master → readyVerdict setup ch slave master
     ≡ Accepted
 unfolding readyVerdict
@@ -133,6 +141,15 @@ pub plan-ready : (setup : Setup) (ch : Channel) (slave master : ℕ) → Ready s
     ≡ actPlan setup ch
 unfolding planOf
 plan-ready setup ch slave master r = ap (planBy setup ch) (ready-by setup ch slave master r)
+
+-- the plan is read off the step's answer
+pub plan-in : (setup : Setup) (ch : Channel) (p : Plan) → planIn (advancedBy setup ch p .answer) ≡ p
+unfolding grantTurn leaveTurn cycleTurn cycleEntry
+plan-in setup ch Idle = refl
+plan-in setup ch (Refused why) = refl
+plan-in setup ch (Grant w) = refl
+plan-in setup ch (Leave o) = refl
+plan-in setup ch (Cycle o) = refl
 
 -- a refused act leaves the stores
 pub refused-still : (setup : Setup) (ch : Channel) (p : Plan) (why : Refusal) (slave master : List ℕ) → advancedBy setup ch p .answer

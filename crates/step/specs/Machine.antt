@@ -28,9 +28,11 @@ use Rattle.act.specs.Cycle.{pathOf, cycleBytes, cycleBefore, cycleOf, isLeaving
 use Rattle.act.specs.Turn.{arbitrationTime}
 use Rattle.tally.specs.declared.Tally.{Tally}
 use Rattle.tally.specs.Tally.{addGrant, addCycle, addRelease}
+use Rattle.step.specs.declared.StepAnswer.{StepAnswer}
 use Rattle.step.specs.declared.StepAnswer.the-variants.{Done, Refused}
 use Rattle.step.specs.declared.Stepped.{Stepped}
 use Rattle.step.specs.declared.Plan.{Plan}
+use Rattle.step.specs.declared.Plan.the-variants as plan
 use Rattle.step.specs.declared.Decision.{Decision}
 use Rattle.step.specs.declared.Ran.{Ran}
 use Rattle.step.specs.declared.Logged.{Logged}
@@ -227,6 +229,14 @@ noPath = record { width = 0; options = 0; port = 0; time = 0; base = 0; allowed 
 
 abbrev pub pathFor : Setup → ℕ → Request → Path
 pathFor setup o q = cond (eqb (q .left) 0) noPath (pathOf setup o q)
+
+-- what a step does, read off its answer
+abbrev pub planIn : StepAnswer → Plan
+planIn (Refused why) = plan.Refused why
+planIn (Done (Idle clock)) = plan.Idle
+planIn (Done (Grant clock winner)) = plan.Grant winner
+planIn (Done (Cycle e)) = plan.Cycle (e .level)
+planIn (Done (Release clock level hold)) = plan.Leave level
 
 -- a decision, by the plan
 abbrev pub decisionBy : Setup → Channel → Tally → Plan → Decision

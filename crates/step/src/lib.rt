@@ -16,7 +16,6 @@ use acts::place_at;
 use acts::put_slot;
 use acts::slot_at;
 use channel::Channel;
-use channel::Phase;
 use channel::Request;
 use cycles::carry;
 use frame::Setup;
@@ -31,11 +30,11 @@ ghost use Prim.Native.Nat.{_<_};
 ghost use lib.ListN.{length};
 ghost use Rattle.frame.specs.Find.{slaveStoreLength};
 ghost use Rattle.channel.specs.Channel.{Shaped};
-ghost use Rattle.step.specs.Plan.{ownerPlan, actPlan, readyVerdict, planOf};
+ghost use Rattle.step.specs.Plan.{actPlan, readyVerdict, planOf};
 ghost use Rattle.step.specs.Step.{Ready, stepOf, slaveAfter, masterAfter, decisionOf, hasRoom, carriedSlave, carriedMaster};
 ghost use Rattle.step.specs.Run.{world, runBy, runOf};
 ghost use Rattle.step.specs.Log.{page, logBy, logOf};
-ghost use Rattle.step.specs.Machine.{pathFor, decisionBy, refusedDecision, refusedRun, refusedLog};
+ghost use Rattle.step.specs.Machine.{pathFor, planIn, decisionBy, refusedDecision, refusedRun, refusedLog};
 
 // What a step is going to do.
 pub enum Plan {
@@ -87,42 +86,6 @@ pub struct Logged {
     pub past: usize,
 }
 
-// The plan while a level owns the channel: a cycle of its request, or without one a release or nothing.
-fn owner_plan(setup: Setup, channel: Channel, owner: u8) -> Plan
-    ensures { λ r. ⌜ r ≡ ownerPlan setup channel owner ⌝ }
-{
-    let request = channel::request_of(channel, owner as usize);
-    if request.left == 0 {
-        let phase = channel.phase;
-        if channel::line_active(&channel.left, &channel.inactive, phase) {
-            return Plan::Leave(owner);
-        }
-        return Plan::Idle;
-    }
-    let slaves = setup.slaves;
-    let slave = channel::slave_of(slaves, request);
-    if 4000000000 < channel.clock as u64 + slave.time as u64 {
-        return Plan::Refused(Refusal::ClockFull);
-    }
-    Plan::Cycle(owner)
-}
-
-// The plan of a step that nothing but the clock can refuse.
-fn act_plan(setup: Setup, channel: Channel) -> Plan
-    ensures { λ r. ⌜ r ≡ actPlan setup channel ⌝ }
-{
-    let phase = channel.phase;
-    match phase {
-        Phase::Arbitrating => {
-            if 4000000000 < channel.clock as u64 + act::arbitration_time() as u64 {
-                return Plan::Refused(Refusal::ClockFull);
-            }
-            Plan::Grant(channel::winner_of(&channel.left, &channel.inactive))
-        }
-        Phase::Granted(owner) => owner_plan(setup, channel, owner),
-    }
-}
-
 // Refusals 9 and 8, which a step and a run share.
 pub fn ready_verdict(setup: Setup, channel: Channel, slave: usize, master: usize) -> Verdict
     ensures { λ r. ⌜ r ≡ readyVerdict setup channel slave master ⌝ }
@@ -136,17 +99,6 @@ pub fn ready_verdict(setup: Setup, channel: Channel, slave: usize, master: usize
             }
             Verdict::Accepted
         }
-    }
-}
-
-// The plan of a step over stores of these lengths: refusals 9, 8 and 6, in that order, or what the step does.
-pub fn plan_of(setup: Setup, channel: Channel, slave: usize, master: usize) -> Plan
-    ensures { λ r. ⌜ r ≡ planOf setup channel slave master ⌝ }
-{
-    let verdict = ready_verdict(setup, channel, slave, master);
-    match verdict {
-        Verdict::Accepted => act_plan(setup, channel),
-        Verdict::Refused(why) => Plan::Refused(why),
     }
 }
 
@@ -227,6 +179,49 @@ fn decide_ready(setup: Setup, channel: Channel, tally: Tally) -> Decision
     ensures { λ r. ⌜ r ≡ decisionBy setup channel tally (actPlan setup channel) ⌝ }
 {
     decide_in_place(setup, channel, tally)
+}
+
+// What a step does, read off its answer.
+fn plan_in(answer: StepAnswer) -> Plan
+    ensures { λ r. ⌜ r ≡ planIn answer ⌝ }
+{
+    match answer {
+        StepAnswer::Refused(why) => Plan::Refused(why),
+        StepAnswer::Done(entry) => match entry {
+            Entry::Idle(_) => Plan::Idle,
+            Entry::Grant(_, winner) => Plan::Grant(winner),
+            Entry::Cycle(cycle) => Plan::Cycle(cycle.level),
+            Entry::Release(_, level, _) => Plan::Leave(level),
+        },
+    }
+}
+
+// The plan of a sound channel's step: its decision, whatever the tally.
+fn plan_ready(setup: Setup, channel: Channel) -> Plan
+    requires { ⌜ Ready setup channel (slaveStoreLength (setup .slaves)) (setup .master) ⌝ }
+    ensures { λ r. ⌜ r ≡ actPlan setup channel ⌝ }
+{
+    let none = Tally {
+        grants: 0,
+        cycles: 0,
+        bytes: 0,
+        hold: 0,
+    };
+    let decision = decide_ready(setup, channel, none);
+    let stepped = decision.stepped;
+    let answer = stepped.answer;
+    plan_in(answer)
+}
+
+// The plan of a step over stores of these lengths: refusals 9, 8 and 6, in that order, or what the step does.
+pub fn plan_of(setup: Setup, channel: Channel, slave: usize, master: usize) -> Plan
+    ensures { λ r. ⌜ r ≡ planOf setup channel slave master ⌝ }
+{
+    let verdict = ready_verdict(setup, channel, slave, master);
+    match verdict {
+        Verdict::Refused(why) => Plan::Refused(why),
+        Verdict::Accepted => plan_ready(setup, channel),
+    }
 }
 
 // A refused step gives back the channel and the tally that it got, and moves nothing.

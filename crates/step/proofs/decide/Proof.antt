@@ -1,5 +1,5 @@
-use mathlib.Core.Path.{refl, sym, _∙_}
-use Rattle.step.proofs.PlanLaws.{ready-is}
+use mathlib.Core.Path.{sym, _∙_}
+use Rattle.step.proofs.PlanLaws.{ready-act}
 use Rattle.step.proofs.CarryLaws.{refused-decision, ready-decision}
 use borrow.Author.Needs.{needs}
 use Rattle.step.proofs.decide.Statement.{statement}
@@ -21,8 +21,7 @@ decide-ready-requires : tie.Need-decide-ready-requires
 decide-ready-requires c κs =
     let five = c .before .before .before .before .before in
     let a = five .args in
-    let r = ready-is (a .setup) (a .channel) _ _ (sym (c .before .before .ready-verdict .ensures) ∙ c .enum-told .given .1) in
-    record { framed = r .framed; sound = r .sound; slave = refl; master = refl }
+    ready-act (a .setup) (a .channel) _ _ (sym (c .before .before .ready-verdict .ensures) ∙ c .enum-told .given .1)
 
 returns : tie.Need-returns
 returns c =
