@@ -208,6 +208,7 @@ module _ {M : Type 1} (𝓤 : URA M) (H : Heap 𝓤) (A : Atoms 𝓤) (mem : Mem
       × One step.carry_bytes.ended step.carry_bytes.clauses
       × One step.step.ended step.step.clauses
       × One step.run.ended step.run.clauses
+      × One step.log_run.ended step.log_run.clauses
   of-step = (
     λ κs a g. alone 𝓤 _ (λ v w. refl),
     λ κs a g. alone 𝓤 _ (λ v w. refl),
@@ -215,6 +216,9 @@ module _ {M : Type 1} (𝓤 : URA M) (H : Heap 𝓤) (A : Atoms 𝓤) (mem : Mem
     λ κs a g. only-two 𝓤 _ _ (λ ws. ws .1 .0) (λ ws. ws .1 .1 .0) (λ v w p q i. (tt, (p i, (q i, tt)))),
     λ κs a g. lent-two 𝓤 _ _ _ (λ ws. ws .1 .1 .1 .0) (λ ws. ws .1 .1 .1 .1 .0) (λ v w p q i. (tt, (tt, (tt, (p i, (q i, tt)))))),
     λ κs a g. lent-two 𝓤 _ _ _ (λ ws. ws .1 .1 .1 .0) (λ ws. ws .1 .1 .1 .1 .0) (λ v w p q i. (tt, (tt, (tt, (p i, (q i, (tt, tt))))))),
+    λ κs a g.
+        lent-three 𝓤 _ _ _ _ (λ ws. ws .1 .1 .1 .0) (λ ws. ws .1 .1 .1 .1 .0) (λ ws. ws .1 .1 .1 .1 .1 .0)
+        (λ v w p q r i. (tt, (tt, (tt, (p i, (q i, (r i, (tt, (tt, tt))))))))),
   )
 
   of-lent : One lent.step.ended lent.step.clauses
@@ -228,12 +232,14 @@ module _ {M : Type 1} (𝓤 : URA M) (H : Heap 𝓤) (A : Atoms 𝓤) (mem : Mem
         (λ v w p q r i. (tt, (tt, (p i, (q i, (r i, (tt, tt))))))),
   )
 
-  of-logline : One logline.put_entry.ended logline.put_entry.clauses
+  of-logline : One logline.has_room.ended logline.has_room.clauses
+      × One logline.put_entry.ended logline.put_entry.clauses
       × One logline.put_post.ended logline.put_post.clauses
       × One logline.put_stop.ended logline.put_stop.clauses
       × One logline.put_end.ended logline.put_end.clauses
       × One logline.put_fault.ended logline.put_fault.clauses
   of-logline = (
+    λ κs a g. alone 𝓤 _ (λ v w. refl),
     λ κs a g. lent-one 𝓤 _ _ (λ ws. ws .0) (λ v w p i. (p i, (tt, (tt, tt)))),
     λ κs a g. lent-one 𝓤 _ _ (λ ws. ws .0) (λ v w p i. (p i, (tt, (tt, (tt, (tt, tt)))))),
     λ κs a g. lent-one 𝓤 _ _ (λ ws. ws .0) (λ v w p i. (p i, (tt, (tt, tt)))),

@@ -28,7 +28,9 @@ use Rattle.channel.specs.Slave.{slaveOf}
 use Rattle.sound.specs.Request.{requestVerdict}
 use Rattle.post.specs.declared.Order.{Order}
 use Rattle.post.specs.Post.{requestIn, postVerdict, postOf}
+use Rattle.act.specs.declared.Entry.{Entry}
 use Rattle.act.specs.Turn.{arbitrationTime}
+use Rattle.logline.specs.Text.{hasRoom as lineRoom}
 use Rattle.tally.specs.declared.Tally.{Tally}
 use Rattle.step.specs.declared.Plan.{Plan}
 use Rattle.step.specs.declared.Plan.the-variants as plan
@@ -38,6 +40,7 @@ use Rattle.step.specs.Plan.{readyVerdict, planBy, planOf, ownerPlan, actPlan, p
 use Rattle.step.specs.Step.{planNumbers, stepNumbers, advancedBy, stepOf}
 use Rattle.step.proofs.PlanLaws.{ready-is}
 use Rattle.step.specs.Run.{World, Out, ended, stepIn, after, goOn, runFrom, runOf}
+use Rattle.step.specs.Log.{Page, lined, LoggedOut, closed, logOn, logFrom, logOf}
 use Rattle.demands.specs.History.{Moment, Start, steps}
 use Rattle.demands.proofs.KeptLaws.{next-kept}
 use Rattle.sheet.specs.declared.Judged.{Judged}
@@ -56,6 +59,8 @@ use Rattle.examples.specs.Numbers.{
   passes,
   stepRows,
   runRows,
+  roomLeft,
+  logRows,
   writtenTold,
   sheetTold,
 }
@@ -196,6 +201,13 @@ run-from setup (suc left) done w s =
     goes (Done e) q later = let more : suc done + left ≡ done + suc left = omega arith in rw more at later
     goes (NotDone why) q later = (omega arith, rw (lt-ltb done (done + suc left) (omega arith)) (only-six setup w s why q))
 
+-- where neither 9 nor 8 refuses
+ready-start : (setup : Setup) (w : World) → Shaped (w .channel)
+    → readyVerdict setup (w .channel) (length (w .slave)) (length (w .master)) ≡ Accepted → Start setup (momentOf w)
+ready-start setup w k e =
+    let r = ready-is setup (w .channel) (length (w .slave)) (length (w .master)) e in
+    record { framed = r .framed; sound = r .sound; shaped = k; slave = r .slave; master = r .master }
+
 pub run-number : (setup : Setup) (budget : ℕ) (w : World) → Shaped (w .channel)
     → verdictNumber (runOf setup budget w .result .verdict) ≡ firstOf (runRows setup budget w)
 unfolding runOf readyVerdict
@@ -203,7 +215,35 @@ run-number setup budget w k =
     by-test (unsound setup (w .channel) .1) (λ t. rw t) (λ f.
     by-test (otherLength setup (length (w .slave)) (length (w .master)) .1) (λ t. rw (f, t)) (λ g.
     by-test (ltb 65535 budget) (λ t. rw (f, g, t)) (λ h.
-    let r = ready-is setup (w .channel) (length (w .slave)) (length (w .master)) (rw (f, g)) in
-    let s : Start setup (momentOf w) =
-    record { framed = r .framed; sound = r .sound; shaped = k; slave = r .slave; master = r .master } in
-    rw (f, g, h) (rw (zero-add budget) at (run-from setup budget 0 w s) .1))))
+    rw (f, g, h) (rw (zero-add budget) at (run-from setup budget 0 w (ready-start setup w k (rw (f, g)))) .1))))
+
+-- a logged run: 6 where it takes fewer and there is still room for a line
+abbrev LogStopped : ℕ → LoggedOut → Type 0
+LogStopped all out =
+    (out .result .ran .steps ≤ all)
+    × (verdictNumber (out .result .ran .verdict) ≡ cond (ltb (out .result .ran .steps) all && roomLeft out) 6 0)
+
+log-from : (setup : Setup) (left done : ℕ) (w : World) (p : Page) → Start setup (momentOf w)
+    → LogStopped (done + left) (logFrom setup left done w p)
+unfolding logFrom
+log-from setup zero done w p s = (omega arith, rw (le-ltb done (done + 0) (omega arith)))
+log-from setup (suc left) done w p s =
+    by-test (lineRoom (p .out) (p .at))
+    (λ t. rw t (goes t (λ e. log-from setup left (suc done) (after setup w) (lined p e) (kept setup w s)) (stepIn setup w .answer) refl))
+    (λ f. rw f (omega arith, rw (lt-ltb done (done + suc left) (omega arith), f)))
+  where
+    goes : lineRoom (p .out) (p .at) ≡ true
+        → ((e : Entry) → LogStopped (suc done + left) (logFrom setup left (suc done) (after setup w) (lined p e))) → (a : StepAnswer) → stepIn setup w .answer ≡ a
+        → LogStopped (done + suc left)
+        (logOn a (λ (entry : Entry). logFrom setup left (suc done) (after setup w) (lined p entry)) (λ (v : Verdict). closed v done w p))
+    goes t later (Done e) q = let more : suc done + left ≡ done + suc left = omega arith in rw more at (later e)
+    goes t later (NotDone why) q = (omega arith, rw (lt-ltb done (done + suc left) (omega arith), t) (only-six setup w s why q))
+
+pub log-number : (setup : Setup) (budget : ℕ) (w : World) (p : Page) → Shaped (w .channel)
+    → verdictNumber (logOf setup budget w p .result .ran .verdict) ≡ firstOf (logRows setup budget w p)
+unfolding logOf readyVerdict
+log-number setup budget w p k =
+    by-test (unsound setup (w .channel) .1) (λ t. rw t) (λ f.
+    by-test (otherLength setup (length (w .slave)) (length (w .master)) .1) (λ t. rw (f, t)) (λ g.
+    by-test (ltb 65535 budget) (λ t. rw (f, g, t)) (λ h.
+    rw (f, g, h) (rw (zero-add budget) at (log-from setup budget 0 w p (ready-start setup w k (rw (f, g)))) .1))))

@@ -27,8 +27,10 @@ use Rattle.step.specs.declared.Plan.{Plan}
 use Rattle.step.specs.declared.Stepped.{Stepped}
 use Rattle.step.specs.declared.Decision.{Decision}
 use Rattle.step.specs.declared.Ran.{Ran}
+use Rattle.step.specs.declared.Logged.{Logged}
 use Rattle.step.specs.Step.{planNumbers, stepNumbers, decisionOf}
 use Rattle.step.specs.Run.{world}
+use Rattle.step.specs.Log.{page}
 use Rattle.sheet.specs.declared.SheetAnswer.{SheetAnswer}
 use Rattle.sheet.specs.Sheet.{sheet as judged, listAt, numbersOf, allBytes, readAnswer, writeAnswer, sheetNumbers}
 use Rattle.number.proofs as number
@@ -49,6 +51,7 @@ use Rattle.examples.specs.Numbers.{
   countRows,
   stepRows,
   runRows,
+  logRows,
   writtenTold,
   sheetTold,
 }
@@ -63,6 +66,7 @@ use Rattle.examples.proofs.NumberLaws.{
   plan-number,
   step-number,
   run-number,
+  log-number,
   written-told,
   sheet-told,
 }
@@ -147,6 +151,16 @@ module _ {M : Type 1} (𝓤 : URA M) (H : Heap 𝓤) (A : Atoms 𝓤) (mem : Mem
   of-run κs a g r ws =
       lent-two _ (λ (r : Ran). Shaped (a .1 .0) → verdictNumber (r .verdict) ≡ _)
       (run-number (a .0) (a .1 .1 .1 .1 .1 .0) (world (a .1 .0) (a .1 .1 .0) (a .1 .1 .1 .0 .now) (a .1 .1 .1 .1 .0 .now))) r _ _
+
+  of-log-run : Tells step.log_run.ended step.log_run.clauses
+      (λ κs a (r : Logged).
+      Shaped (a .1 .0) → verdictNumber (r .ran .verdict) ≡ firstOf
+      (logRows (a .0) (a .1 .1 .1 .1 .1 .1 .1 .0) (world (a .1 .0) (a .1 .1 .0) (a .1 .1 .1 .0 .now) (a .1 .1 .1 .1 .0 .now))
+      (page (a .1 .1 .1 .1 .1 .0 .now) (a .1 .1 .1 .1 .1 .1 .0))))
+  of-log-run κs a g r ws =
+      lent-three _ (λ (r : Logged). Shaped (a .1 .0) → verdictNumber (r .ran .verdict) ≡ _)
+      (log-number (a .0) (a .1 .1 .1 .1 .1 .1 .1 .0) (world (a .1 .0) (a .1 .1 .0) (a .1 .1 .1 .0 .now) (a .1 .1 .1 .1 .0 .now))
+      (page (a .1 .1 .1 .1 .1 .0 .now) (a .1 .1 .1 .1 .1 .1 .0))) r _ _ _
 
   of-lent-step : Tells lent.step.ended lent.step.clauses
       (λ κs a (r : Stepped).

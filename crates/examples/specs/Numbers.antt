@@ -24,7 +24,9 @@ use Rattle.sound.specs.Sound.{isSound, clockLimit}
 use Rattle.post.specs.declared.Order.{Order}
 use Rattle.post.specs.Post.{requestIn}
 use Rattle.act.specs.Turn.{arbitrationTime}
+use Rattle.logline.specs.Text.{hasRoom as lineRoom}
 use Rattle.step.specs.Run.{World, runOf}
+use Rattle.step.specs.Log.{Page, LoggedOut, logOf}
 use Rattle.sheet.specs.declared.Judged.{Judged}
 use Rattle.sheet.specs.declared.Judged.the-variants.{Good, Fault}
 
@@ -78,6 +80,15 @@ abbrev pub runRows : Setup → ℕ → World → List Row
 runRows setup budget w =
     unsound setup (w .channel) ∷ otherLength setup (length (w .slave)) (length (w .master)) ∷ (7, ltb 65535 budget)
     ∷ (6, ltb (runOf setup budget w .result .steps) budget) ∷ []
+
+-- a logged run is refused as a run is; where it stops before its budget is used up, it was 6 while there is room for another line
+abbrev pub roomLeft : LoggedOut → Bool
+roomLeft o = lineRoom (o .out) (o .result .past)
+
+abbrev pub logRows : Setup → ℕ → World → Page → List Row
+logRows setup budget w p =
+    unsound setup (w .channel) ∷ otherLength setup (length (w .slave)) (length (w .master)) ∷ (7, ltb 65535 budget)
+    ∷ (6, ltb (logOf setup budget w p .result .ran .steps) budget && roomLeft (logOf setup budget w p)) ∷ []
 
 -- "17: place 0, the lent result is too short"; a number's 17 and its answer otherwise, the place past it
 abbrev pub writtenTold : List ℕ → ℕ → ℕ → List ℕ
