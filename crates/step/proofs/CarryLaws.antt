@@ -37,8 +37,7 @@ use Rattle.step.specs.Step.{
   decisionOf,
 }
 use Rattle.step.specs.Machine.{decisionBy, refusedDecision}
-use Rattle.step.proofs.PlanLaws.{planned-roomy, ready-is}
-use Rattle.step.proofs.HeldLaws.{room-of}
+use Rattle.step.proofs.PlanLaws.{planned-roomy, ready-is, carry-room}
 
 module _ (c : Carry) (s m : ℕ) where
   pub no-slave : s < c .bytes → false ≡ hasRoom c s m
@@ -83,7 +82,7 @@ module _ (setup : Setup) (ch : Channel) (slave master : List ℕ) where
   by-plan r (Leave o) e = nothing
   by-plan r (Cycle o) e =
       let x = planned-roomy setup ch o (length slave) (length master) r e in
-      room-of (pathOf setup o (requestOf ch o)) (requestOf ch o) (x .way) (length slave) (length master) x
+      carry-room (pathOf setup o (requestOf ch o)) (requestOf ch o) (length slave) (length master) x
 
   pub act-room : Ready setup ch (length slave) (length master) → Room (carryBy setup ch (actPlan setup ch)) (length slave) (length master)
   act-room r = by-plan r (actPlan setup ch) refl

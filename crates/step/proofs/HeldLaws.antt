@@ -16,7 +16,7 @@ use Rattle.act.specs.declared.Path.{Path}
 use Rattle.act.specs.declared.Ending.{Ending}
 use Rattle.act.specs.declared.Ending.the-variants.{Kept, Released, Marked}
 use Rattle.act.specs.Cycle.{cycleOf, releasedBy, endingOf, isLeaving, isKept}
-use Rattle.step.specs.Step.{Way, Roomy, Room, carryOf, movedSlave, movedMaster}
+use Rattle.step.specs.Step.{Way, Roomy, carryOf, movedSlave, movedMaster}
 use Rattle.step.specs.declared.turns.Tenure.{Tenure}
 use Rattle.step.specs.Turns.{heldOf, held, cycled, filled}
 use Rattle.step.proofs.CycleFacts.{Leaves, leaves}
@@ -67,12 +67,7 @@ module _ (path : Path) (q : Request) (way : Way path q) where
       absurd (false≢true (sym (not-kept (path .options) asked clock) ∙ (rw (ends, z) at e))))
       (λ n. omega (arith, eqb-false (cycleOf path q .rest .left) 0 n))
 
-  -- what a cycle moves has room where the whole request has
-  pub room-of : (s m : ℕ) → Roomy path q s m → Room (carryOf path q) s m
-  unfolding carryOf
-  room-of s m r = record { slave = omega (arith, r .slave); master = omega (arith, r .master) }
-
-  -- and so has what is left
+  -- what is left has room where the whole request has
   pub roomy-on : (s m : ℕ) → Roomy path q s m → 0 < cycleOf path q .rest .left → Roomy path (cycleOf path q .rest) s m
   roomy-on s m r some =
       let e = moves .onward some in

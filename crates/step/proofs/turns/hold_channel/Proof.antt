@@ -7,7 +7,8 @@ use Rattle.act.specs.Cycle.{isKept}
 use Rattle.step.specs.Step.{Roomy}
 use Rattle.step.specs.Turns.{Held, held}
 use Rattle.step.specs.declared.turns.Tenure.{Tenure}
-use Rattle.step.proofs.HeldLaws.{held-full, held-ends, held-on, kept-some, room-of, roomy-on, cycled-facts}
+use Rattle.step.proofs.PlanLaws.{carry-room}
+use Rattle.step.proofs.HeldLaws.{held-full, held-ends, held-on, kept-some, roomy-on, cycled-facts}
 use Rattle.step.proofs.turns.hold_channel.Statement.{statement}
 use Rattle.step.proofs.turns.hold_channel.Tie as tie
 
@@ -59,7 +60,7 @@ carry-requires : tie.Need-carry-requires Inv-loop μ-loop
 carry-requires c κs =
     let five = c .before .before .before .before .before in
     let r = five .before .before .before .before .loop .inv .0 in
-    rw (c .before .before .carry-of .ensures) (room-of _ (five .before .before .before .before .loop .now .request) (r .way) _ _ r)
+    rw (c .before .before .carry-of .ensures) (carry-room _ (five .before .before .before .before .loop .now .request) _ _ r)
 
 cycle-on-requires : tie.Need-cycle-on-requires Inv-loop μ-loop
 cycle-on-requires c κs =
