@@ -1,6 +1,6 @@
--- The numbers of document 01 that bound something, each once. Some are equal and mean different things: a channel has a place for each level, a table a
--- place for each row. What a name says stands in the code under the same name, in capitals.
-use Prim.Native.Nat.{ℕ, _+_}
+-- The numbers of document 01 that bound something, each once. Some are equal and mean different things: a channel has a place for each
+-- level, a table of a set-up a place for each row. The code has them under the same names, in capitals.
+use Prim.Native.Nat.{ℕ}
 
 -- "an inactive mark per level", "levels 0 to 15": the places of a channel's arrays, one for each level
 abbrev pub places : ℕ

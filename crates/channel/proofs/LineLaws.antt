@@ -93,7 +93,8 @@ line-after ch =
     (any-mono (drives (ch .left) (ch .inactive) (ownerOf (ch .phase))) (asks (ch .left) (ownerOf (ch .phase))) places
     (λ l h e. drives-asks (ch .left) (ch .inactive) (ownerOf (ch .phase)) l e) t)))
     (λ f.
-    any-ext (drives (cleared ch .left) (cleared ch .inactive) (ownerOf (cleared ch .phase))) (asks (ch .left) (ownerOf (ch .phase))) places (cleared-off ch f))
+    any-ext (drives (cleared ch .left) (cleared ch .inactive) (ownerOf (cleared ch .phase))) (asks (ch .left) (ownerOf (ch .phase))) places
+    (cleared-off ch f))
 
 -- the winner waits, or nobody does and it is 15
 pub winner-is : (left : List ℕ) (inactive : List Bool)
@@ -106,7 +107,8 @@ winner-is left inactive =
     let s = any-some (waits left inactive) places t in
     let r = first-finds (waits left inactive) 0 places systemMaster (s .0) (omega arith) (omega (arith, s .1)) (s .2) in
     inl (r .0, omega (arith, r .2)))
-    (λ f. inr (first-default (waits left inactive) 0 places systemMaster (λ j l h. any-none (waits left inactive) places f j (omega arith)), f))
+    (λ f.
+    inr (first-default (waits left inactive) 0 places systemMaster (λ j l h. any-none (waits left inactive) places f j (omega arith)), f))
 
 -- "The lowest-numbered level with an open request and no inactive mark wins": whoever waits is not below the winner
 pub winner-lowest : (left : List ℕ) (inactive : List Bool) (l : ℕ) → l < places → waits left inactive l ≡ true → winner left inactive ≤ l
@@ -129,7 +131,8 @@ unfolding lineActive
 none-waits ch p f = rw p (any-ext _ (waits (ch .left) (ch .inactive)) places (waits-drives (ch .left) (ch .inactive)) ∙ f)
 
 -- an array of marks of which none is set
-pub no-marks : (inactive : List Bool) → length inactive ≡ places → ((l : ℕ) → l < places → isInactive inactive l ≡ false) → inactive ≡ replicate places false
+pub no-marks : (inactive : List Bool) → length inactive ≡ places → ((l : ℕ) → l < places → isInactive inactive l ≡ false)
+    → inactive ≡ replicate places false
 no-marks inactive n h =
     ext-getD false inactive (replicate places false) (n ∙ sym (length-replicate places false))
     (λ l k. h l (omega (arith, n)) ∙ sym (getD-replicate places l false false (omega (arith, n))))

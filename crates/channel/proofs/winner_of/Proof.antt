@@ -9,7 +9,8 @@ use Rattle.channel.proofs.winner_of.Statement.{statement}
 use Rattle.channel.proofs.winner_of.Tie as tie
 
 abbrev Inv-loop : tie.InvT-loop
-Inv-loop left inactive level₀ level = (level ≤ places) × (firstFrom (waits left inactive) level (places - level) systemMaster ≡ winner left inactive)
+Inv-loop left inactive level₀ level =
+    (level ≤ places) × (firstFrom (waits left inactive) level (places - level) systemMaster ≡ winner left inactive)
 
 abbrev μ-loop : tie.MeasureT-loop
 μ-loop left inactive level₀ level = places - level
