@@ -134,7 +134,7 @@ module _ (src : Source) where
   unfolding sheet body
   sheet-tells len =
       tells-ranged 1 1 BadEdition 0 (λ e. omega arith) (λ edition first h.
-      tells-then {k = 7250} (counted-tells levels (λ e. omega arith) first) (λ second.
+      tells-then {k = suc (rowsMost * 5) + suc (eventsMost * 7)} (counted-tells levels (λ e. omega arith) first) (λ second.
       tells-then {k = suc (eventsMost * 7)} (counted-tells slaves (λ e. omega arith) second) (λ third.
       tells-then {k = 0} (all-events-tell third) (λ end.
       tells-cond (ltb end len) (fault (λ e. absurd (omega arith))) tells-none))))

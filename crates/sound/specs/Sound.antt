@@ -22,6 +22,7 @@ use Rattle.channel.specs.declared.Request.{Request}
 use Rattle.channel.specs.Channel.{hasRequest, requestOf}
 use Rattle.channel.specs.Line.{isInactive, line}
 use Rattle.sound.specs.Request.{requestVerdict, transferOf}
+-- the limit of the clock, for whoever has it from here
 pub use Rattle.basics.specs.Limits.{clockLimit}
 
 -- "granted to an absent level, or to one other than 15 without a request, or to an inactive one"
