@@ -2,6 +2,7 @@
 // lowest first, and a sheet. So many times the sheet's events are gone through from a fresh channel: a post is posted, and a
 // step event is one `run`, or with an argument so many single steps. Then the last channel, the tally and digests of both
 // stores are printed, so that another program can be compared with it.
+use basics::PLACES;
 use channel::Asked;
 use channel::Channel;
 use frame::Setup;
@@ -230,7 +231,7 @@ fn print_level(inactive: bool, direction: u32, space: u32, address: u32, left: u
 
 fn print_levels(channel: Channel) {
     let mut i: usize = 0;
-    while i < 16 {
+    while i < PLACES {
         print_level(
             channel.inactive[i],
             channel.direction[i],

@@ -1,5 +1,7 @@
 // The examples of document 01, "Both sides of the line", that are run and compared: a burst that lingers, asked at its
 // grant, holds the channel for exactly 7,800 ns; and nothing wraps at the end of the address space.
+use basics::ROWS_MOST;
+use basics::SYSTEM_MASTER_U32;
 use channel::Channel;
 use frame::LevelRow;
 use frame::LevelRows;
@@ -18,7 +20,7 @@ fn levels() -> LevelRows {
         width: 0,
         options: 0,
     };
-    let mut rows = [none; 16];
+    let mut rows = [none; ROWS_MOST];
     // a digitiser that bursts and lingers, a counter that waits, and the system master
     rows[0] = LevelRow {
         level: 3,
@@ -31,7 +33,7 @@ fn levels() -> LevelRows {
         options: 0,
     };
     rows[2] = LevelRow {
-        level: 15,
+        level: SYSTEM_MASTER_U32,
         width: 4,
         options: 0,
     };
@@ -49,7 +51,7 @@ fn slaves(port: u32, time: u32) -> SlaveRows {
         port: 0,
         time: 0,
     };
-    let mut rows = [none; 16];
+    let mut rows = [none; ROWS_MOST];
     rows[0] = SlaveRow {
         space: 1,
         base: 4096,

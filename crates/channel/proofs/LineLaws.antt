@@ -8,6 +8,7 @@ use native.Mathlib.Omega.{arith}
 use borrow.Author.Tests.{eqb-false, ne-eqb, not-true}
 use lib.ListN.{length, replicate, getD-replicate, length-replicate}
 use lib.Seq.{ext-getD}
+use Rattle.basics.specs.Limits.{places, noOwner, systemMaster}
 use Rattle.basics.specs.Scan.{anyBelow}
 use Rattle.basics.proofs.ScanLaws.{any-hit, any-ext, any-some, any-mono, any-none, first-least, first-finds, first-default}
 use Rattle.basics.proofs.Tests.{by-test, and-left, and-right}
@@ -44,20 +45,20 @@ module _ (left : List ℕ) (inactive : List Bool) (owner l : ℕ) where
   waits-is e = (and-left _ _ e, not-true _ (and-right (hasRequest left l) _ e))
 
 -- while arbitrating, whoever waits drives the line
-pub waits-drives : (left : List ℕ) (inactive : List Bool) (l : ℕ) → l < 16 → drives left inactive 16 l ≡ waits left inactive l
+pub waits-drives : (left : List ℕ) (inactive : List Bool) (l : ℕ) → l < places → drives left inactive noOwner l ≡ waits left inactive l
 unfolding drives waits
-waits-drives left inactive l h = rw (ne-eqb l 16 (omega arith), and-true)
+waits-drives left inactive l h = rw (ne-eqb l noOwner (omega arith), and-true)
 
 -- the line, from and to one level that drives it
-pub line-by : (left : List ℕ) (inactive : List Bool) (phase : Phase) (l : ℕ) → l < 16 → Drives left inactive (ownerOf phase) l
+pub line-by : (left : List ℕ) (inactive : List Bool) (phase : Phase) (l : ℕ) → l < places → Drives left inactive (ownerOf phase) l
     → lineActive left inactive phase ≡ true
 unfolding lineActive
-line-by left inactive phase l h d = any-hit _ l 16 h (drives-by left inactive (ownerOf phase) l d)
+line-by left inactive phase l h d = any-hit _ l places h (drives-by left inactive (ownerOf phase) l d)
 
 pub line-some : (left : List ℕ) (inactive : List Bool) (phase : Phase) → lineActive left inactive phase ≡ true
-    → (l : ℕ) × (l < 16) × Drives left inactive (ownerOf phase) l
+    → (l : ℕ) × (l < places) × Drives left inactive (ownerOf phase) l
 unfolding lineActive
-line-some left inactive phase e = let s = any-some _ 16 e in (s .0, s .1, drives-is left inactive (ownerOf phase) (s .0) (s .2))
+line-some left inactive phase e = let s = any-some _ places e in (s .0, s .1, drives-is left inactive (ownerOf phase) (s .0) (s .2))
 
 -- the asked time does not matter to the line
 pub line-timed : (ch : Channel) → line (timed ch) ≡ line ch
@@ -69,10 +70,10 @@ unfolding cleared
 cleared-on ch t = rw t
 
 -- without marks, the line is driven by whoever asks
-cleared-off : (ch : Channel) → line ch ≡ false → (l : ℕ) → l < 16
+cleared-off : (ch : Channel) → line ch ≡ false → (l : ℕ) → l < places
     → drives (cleared ch .left) (cleared ch .inactive) (ownerOf (cleared ch .phase)) l ≡ asks (ch .left) (ownerOf (ch .phase)) l
 unfolding cleared drives asks
-cleared-off ch f l h = rw (f, getD-replicate 16 l false false h)
+cleared-off ch f l h = rw (f, getD-replicate places l false false h)
 
 drives-asks : (left : List ℕ) (inactive : List Bool) (owner l : ℕ) → drives left inactive owner l ≡ true → asks left owner l ≡ true
 unfolding asks
@@ -89,28 +90,30 @@ line-after ch =
     (λ t.
     rw (cleared-on ch t, t)
     (sym
-    (any-mono (drives (ch .left) (ch .inactive) (ownerOf (ch .phase))) (asks (ch .left) (ownerOf (ch .phase))) 16
+    (any-mono (drives (ch .left) (ch .inactive) (ownerOf (ch .phase))) (asks (ch .left) (ownerOf (ch .phase))) places
     (λ l h e. drives-asks (ch .left) (ch .inactive) (ownerOf (ch .phase)) l e) t)))
     (λ f.
-    any-ext (drives (cleared ch .left) (cleared ch .inactive) (ownerOf (cleared ch .phase))) (asks (ch .left) (ownerOf (ch .phase))) 16 (cleared-off ch f))
+    any-ext (drives (cleared ch .left) (cleared ch .inactive) (ownerOf (cleared ch .phase))) (asks (ch .left) (ownerOf (ch .phase))) places
+    (cleared-off ch f))
 
 -- the winner waits, or nobody does and it is 15
 pub winner-is : (left : List ℕ) (inactive : List Bool)
-    → ((waits left inactive (winner left inactive) ≡ true) × (winner left inactive < 16))
-    ⊎ ((winner left inactive ≡ 15) × (anyBelow (waits left inactive) 16 ≡ false))
+    → ((waits left inactive (winner left inactive) ≡ true) × (winner left inactive < places))
+    ⊎ ((winner left inactive ≡ systemMaster) × (anyBelow (waits left inactive) places ≡ false))
 unfolding winner
 winner-is left inactive =
-    by-test (anyBelow (waits left inactive) 16)
+    by-test (anyBelow (waits left inactive) places)
     (λ t.
-    let s = any-some (waits left inactive) 16 t in
-    let r = first-finds (waits left inactive) 0 16 15 (s .0) (omega arith) (omega (arith, s .1)) (s .2) in
+    let s = any-some (waits left inactive) places t in
+    let r = first-finds (waits left inactive) 0 places systemMaster (s .0) (omega arith) (omega (arith, s .1)) (s .2) in
     inl (r .0, omega (arith, r .2)))
-    (λ f. inr (first-default (waits left inactive) 0 16 15 (λ j l h. any-none (waits left inactive) 16 f j (omega arith)), f))
+    (λ f.
+    inr (first-default (waits left inactive) 0 places systemMaster (λ j l h. any-none (waits left inactive) places f j (omega arith)), f))
 
 -- "The lowest-numbered level with an open request and no inactive mark wins": whoever waits is not below the winner
-pub winner-lowest : (left : List ℕ) (inactive : List Bool) (l : ℕ) → l < 16 → waits left inactive l ≡ true → winner left inactive ≤ l
+pub winner-lowest : (left : List ℕ) (inactive : List Bool) (l : ℕ) → l < places → waits left inactive l ≡ true → winner left inactive ≤ l
 unfolding winner
-winner-lowest left inactive l h e = first-least (waits left inactive) 0 16 15 l (omega arith) (omega (arith, h)) e
+winner-lowest left inactive l h e = first-least (waits left inactive) 0 places systemMaster l (omega arith) (omega (arith, h)) e
 
 -- an asked time stays while the channel is granted: the 7,800 ns begin once
 pub asked-stays : (ch : Channel) (o t : ℕ) → ch .phase ≡ Granted o → ch .asked ≡ At t → lineRule ch .asked ≡ At t
@@ -123,12 +126,13 @@ unfolding timed
 unasked ch o p a f = rw (f, p, a)
 
 -- while arbitrating, the line is not active where nobody waits
-pub none-waits : (ch : Channel) → ch .phase ≡ Arbitrating → anyBelow (waits (ch .left) (ch .inactive)) 16 ≡ false → line ch ≡ false
+pub none-waits : (ch : Channel) → ch .phase ≡ Arbitrating → anyBelow (waits (ch .left) (ch .inactive)) places ≡ false → line ch ≡ false
 unfolding lineActive
-none-waits ch p f = rw p (any-ext _ (waits (ch .left) (ch .inactive)) 16 (waits-drives (ch .left) (ch .inactive)) ∙ f)
+none-waits ch p f = rw p (any-ext _ (waits (ch .left) (ch .inactive)) places (waits-drives (ch .left) (ch .inactive)) ∙ f)
 
 -- an array of marks of which none is set
-pub no-marks : (inactive : List Bool) → length inactive ≡ 16 → ((l : ℕ) → l < 16 → isInactive inactive l ≡ false) → inactive ≡ replicate 16 false
+pub no-marks : (inactive : List Bool) → length inactive ≡ places → ((l : ℕ) → l < places → isInactive inactive l ≡ false)
+    → inactive ≡ replicate places false
 no-marks inactive n h =
-    ext-getD false inactive (replicate 16 false) (n ∙ sym (length-replicate 16 false))
-    (λ l k. h l (omega (arith, n)) ∙ sym (getD-replicate 16 l false false (omega (arith, n))))
+    ext-getD false inactive (replicate places false) (n ∙ sym (length-replicate places false))
+    (λ l k. h l (omega (arith, n)) ∙ sym (getD-replicate places l false false (omega (arith, n))))

@@ -6,6 +6,7 @@ use mathlib.Core.List.{List}
 use native.Mathlib.Omega.{arith}
 use lib.ListN.{length, length-set, List·getD-eq-default}
 use lib.Seq.{set-out, getD-set-same, getD-set-other}
+use Rattle.basics.specs.Limits.{places}
 use Rattle.basics.proofs.Tests.{by-test}
 use Rattle.channel.specs.declared.Phase.{Phase}
 use Rattle.channel.specs.declared.Asked.{Asked}
@@ -30,7 +31,7 @@ same-channel a b phase asked clock inactive direction space address left offset 
       offset = offset i;
     }
 
-pub request-same : (ch : Channel) (l : ℕ) (q : Request) → Shaped ch → l < 16 → requestOf (withRequest ch l q) l ≡ q
+pub request-same : (ch : Channel) (l : ℕ) (q : Request) → Shaped ch → l < places → requestOf (withRequest ch l q) l ≡ q
 unfolding withRequest
 request-same ch l q s h =
     λ i. record {
@@ -53,7 +54,7 @@ request-other ch l m q n =
     }
 
 -- past the last level there is no request
-pub no-request : (ch : Channel) (l : ℕ) → Shaped ch → 16 ≤ l → requestOf ch l ≡ noRequest
+pub no-request : (ch : Channel) (l : ℕ) → Shaped ch → places ≤ l → requestOf ch l ≡ noRequest
 no-request ch l s h =
     λ i. record {
       direction = List·getD-eq-default (ch .direction) 0 {n = l} (omega (arith, s .direction)) i;
@@ -63,7 +64,7 @@ no-request ch l s h =
       offset = List·getD-eq-default (ch .offset) 0 {n = l} (omega (arith, s .offset)) i;
     }
 
-pub no-place : (ch : Channel) (l : ℕ) (q : Request) → Shaped ch → 16 ≤ l → withRequest ch l q ≡ ch
+pub no-place : (ch : Channel) (l : ℕ) (q : Request) → Shaped ch → places ≤ l → withRequest ch l q ≡ ch
 unfolding withRequest
 no-place ch l q s h =
     same-channel (withRequest ch l q) ch refl refl refl refl
@@ -90,7 +91,7 @@ with-shaped ch l q s =
     }
 
 -- a changed channel has the shape where its marks have
-pub changed-shaped : (ch : Channel) (phase : Phase) (asked : Asked) (clock : ℕ) (marks : List Bool) → length marks ≡ 16 → Shaped ch
+pub changed-shaped : (ch : Channel) (phase : Phase) (asked : Asked) (clock : ℕ) (marks : List Bool) → length marks ≡ places → Shaped ch
     → Shaped (changed ch phase asked clock marks)
 changed-shaped ch phase asked clock marks n s =
     record { inactive = n; direction = s .direction; space = s .space; address = s .address; left = s .left; offset = s .offset }

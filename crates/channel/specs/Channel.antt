@@ -7,6 +7,7 @@ use lib.ListN.{length, getD, set, replicate}
 use lib.Dec.{eqb}
 use Rattle.refusal.specs.Refusal.{refusedBy}
 use Rattle.refusal.specs.declared.Verdict.the-variants.{Accepted}
+use Rattle.basics.specs.Limits.{places, noOwner}
 use Rattle.frame.specs.declared.Setup.{Setup}
 use Rattle.frame.specs.Frame.{isFramed}
 use Rattle.channel.specs.declared.Phase.{Phase}
@@ -17,9 +18,9 @@ use Rattle.channel.specs.declared.Channel.{Channel}
 use Rattle.channel.specs.declared.Request.{Request}
 use Rattle.channel.specs.declared.Judged.{Judged}
 
--- "The channel is arbitrating, or granted to one level.": the owner's level; while arbitrating 16, which is no level
+-- "The channel is arbitrating, or granted to one level.": the owner's level; while arbitrating `noOwner`, which is no level
 abbrev pub ownerOf : Phase → ℕ
-ownerOf Arbitrating = 16
+ownerOf Arbitrating = noOwner
 ownerOf (Granted owner) = owner
 
 -- "A level has at most one open request.": it has one while bytes of it are left
@@ -83,12 +84,12 @@ fresh =
       phase = Arbitrating;
       asked = Never;
       clock = 0;
-      inactive = replicate 16 false;
-      direction = replicate 16 0;
-      space = replicate 16 0;
-      address = replicate 16 0;
-      left = replicate 16 0;
-      offset = replicate 16 0;
+      inactive = replicate places false;
+      direction = replicate places 0;
+      space = replicate places 0;
+      address = replicate places 0;
+      left = replicate places 0;
+      offset = replicate places 0;
     }
 
 -- "9: set-up ..: the set-up breaks the frame"; "A refused set-up gives the fresh channel"
@@ -97,9 +98,9 @@ setUp setup = record { channel = fresh; verdict = refusedBy ((9, not (isFramed s
 
 -- every channel of the program: its arrays have a place for each level
 pub record Shaped (ch : Channel) : Type 0 where
-  pub inactive : length (ch .inactive) ≡ 16
-  pub direction : length (ch .direction) ≡ 16
-  pub space : length (ch .space) ≡ 16
-  pub address : length (ch .address) ≡ 16
-  pub left : length (ch .left) ≡ 16
-  pub offset : length (ch .offset) ≡ 16
+  pub inactive : length (ch .inactive) ≡ places
+  pub direction : length (ch .direction) ≡ places
+  pub space : length (ch .space) ≡ places
+  pub address : length (ch .address) ≡ places
+  pub left : length (ch .left) ≡ places
+  pub offset : length (ch .offset) ≡ places

@@ -4,6 +4,7 @@ use mathlib.Core.Bool.{Bool, false, cond, not, _&&_}
 use mathlib.Core.List.{List}
 use lib.ListN.{getD, replicate}
 use lib.Dec.{eqb}
+use Rattle.basics.specs.Limits.{places, systemMaster}
 use Rattle.basics.specs.Scan.{anyBelow, firstFrom}
 use Rattle.channel.specs.declared.Phase.{Phase}
 use Rattle.channel.specs.declared.Phase.the-variants.{Arbitrating, Granted}
@@ -26,7 +27,7 @@ drives left inactive owner l = hasRequest left l && (not (isInactive inactive l)
 
 -- "-PREEMPT is active when some level other than the owner (while arbitrating, any level) has an open request and isn't inactive."
 unfoldable pub lineActive : List ℕ → List Bool → Phase → Bool
-lineActive left inactive phase = anyBelow (drives left inactive (ownerOf phase)) 16
+lineActive left inactive phase = anyBelow (drives left inactive (ownerOf phase)) places
 
 abbrev pub line : Channel → Bool
 line ch = lineActive (ch .left) (ch .inactive) (ch .phase)
@@ -36,11 +37,11 @@ unfoldable pub asks : List ℕ → ℕ → ℕ → Bool
 asks left owner l = hasRequest left l && not (eqb l owner)
 
 unfoldable pub othersAsk : Channel → Bool
-othersAsk ch = anyBelow (asks (ch .left) (ownerOf (ch .phase))) 16
+othersAsk ch = anyBelow (asks (ch .left) (ownerOf (ch .phase))) places
 
 -- "1. If the line is not active, every inactive mark is removed, and the line is judged afresh."
 unfoldable pub cleared : Channel → Channel
-cleared ch = changed ch (ch .phase) (ch .asked) (ch .clock) (cond (line ch) (ch .inactive) (replicate 16 false))
+cleared ch = changed ch (ch .phase) (ch .asked) (ch .clock) (cond (line ch) (ch .inactive) (replicate places false))
 
 -- "2. While granted, an active line with no asked time sets the asked time to the clock. While arbitrating there is no asked time."
 abbrev pub askedNow : Phase → Asked → Bool → ℕ → Asked
@@ -57,4 +58,4 @@ lineRule ch = timed (cleared ch)
 
 -- "The lowest-numbered level with an open request and no inactive mark wins (001: 0 is highest). With none, level 15 wins."
 unfoldable pub winner : List ℕ → List Bool → ℕ
-winner left inactive = firstFrom (waits left inactive) 0 16 15
+winner left inactive = firstFrom (waits left inactive) 0 places systemMaster

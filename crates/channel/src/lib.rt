@@ -1,5 +1,8 @@
 // The channel (document 01, "The frame", "The line rule"): its phase, asked time, clock, marks and requests; the line
 // -PREEMPT, the line rule, the winner of an arbitration, and the channel after set-up.
+use basics::NO_OWNER;
+use basics::PLACES;
+use basics::SYSTEM_MASTER;
 use frame::FoundSlave;
 use frame::Setup;
 use frame::SlaveRow;
@@ -29,12 +32,12 @@ pub struct Channel {
     pub phase: Phase,
     pub asked: Asked,
     pub clock: u32,
-    pub inactive: [bool; 16],
-    pub direction: [u32; 16],
-    pub space: [u32; 16],
-    pub address: [u32; 16],
-    pub left: [u32; 16],
-    pub offset: [u32; 16],
+    pub inactive: [bool; PLACES],
+    pub direction: [u32; PLACES],
+    pub space: [u32; PLACES],
+    pub address: [u32; PLACES],
+    pub left: [u32; PLACES],
+    pub offset: [u32; PLACES],
 }
 
 // What is left of a request, or a request that is posted.
@@ -52,12 +55,12 @@ pub struct Judged {
     pub verdict: Verdict,
 }
 
-// The owner's level; while arbitrating 16, which is no level.
+// The owner's level; while arbitrating `NO_OWNER`, which is no level.
 pub fn owner_of(phase: Phase) -> u8
     ensures { λ r. ⌜ r ≡ ownerOf phase ⌝ }
 {
     match phase {
-        Phase::Arbitrating => 16,
+        Phase::Arbitrating => NO_OWNER,
         Phase::Granted(owner) => owner,
     }
 }
@@ -89,7 +92,7 @@ pub fn no_request() -> Request
 pub fn request_of(channel: Channel, level: usize) -> Request
     ensures { λ r. ⌜ r ≡ requestOf channel level ⌝ }
 {
-    if 16 <= level {
+    if PLACES <= level {
         return no_request();
     }
     Request {
@@ -105,7 +108,7 @@ pub fn request_of(channel: Channel, level: usize) -> Request
 pub fn put_request(channel: Channel, level: usize, request: Request) -> Channel
     ensures { λ r. ⌜ r ≡ withRequest channel level request ⌝ }
 {
-    if 16 <= level {
+    if PLACES <= level {
         return channel;
     }
     let mut next = channel;
@@ -135,12 +138,12 @@ pub fn slave_of(slaves: SlaveRows, request: Request) -> SlaveRow
 }
 
 // -PREEMPT: some level other than the owner has an open request and isn't inactive.
-pub fn line_active<'a>(left: &'a [u32; 16], inactive: &'a [bool; 16], phase: Phase) -> bool
+pub fn line_active<'a>(left: &'a [u32; PLACES], inactive: &'a [bool; PLACES], phase: Phase) -> bool
     ensures { λ r. ⌜ r ≡ lineActive (now (left .entry)) (now (inactive .entry)) phase ⌝ }
 {
     let owner = owner_of(phase) as usize;
     let mut level: usize = 0;
-    while level < 16 {
+    while level < PLACES {
         if (left[level] != 0) & (!inactive[level] & (level != owner)) {
             return true;
         }
@@ -150,18 +153,18 @@ pub fn line_active<'a>(left: &'a [u32; 16], inactive: &'a [bool; 16], phase: Pha
 }
 
 // The lowest-numbered level with an open request and no inactive mark; with none, 15.
-pub fn winner_of<'a>(left: &'a [u32; 16], inactive: &'a [bool; 16]) -> u8
+pub fn winner_of<'a>(left: &'a [u32; PLACES], inactive: &'a [bool; PLACES]) -> u8
     ensures { λ r. ⌜ r ≡ winner (now (left .entry)) (now (inactive .entry)) ⌝ }
 {
     let mut level: u8 = 0;
-    while level < 16 {
+    while level < NO_OWNER {
         let at = level as usize;
         if (left[at] != 0) & !inactive[at] {
             return level;
         }
         level += 1;
     }
-    15
+    SYSTEM_MASTER
 }
 
 // Line rule 1: if the line is not active, every inactive mark is removed.
@@ -173,7 +176,7 @@ fn clear_marks(channel: Channel) -> Channel
         return channel;
     }
     let mut next = channel;
-    next.inactive = [false; 16];
+    next.inactive = [false; PLACES];
     next
 }
 
@@ -241,12 +244,12 @@ pub fn fresh_channel() -> Channel
         phase: Phase::Arbitrating,
         asked: Asked::Never,
         clock: 0,
-        inactive: [false; 16],
-        direction: [0; 16],
-        space: [0; 16],
-        address: [0; 16],
-        left: [0; 16],
-        offset: [0; 16],
+        inactive: [false; PLACES],
+        direction: [0; PLACES],
+        space: [0; PLACES],
+        address: [0; PLACES],
+        left: [0; PLACES],
+        offset: [0; PLACES],
     }
 }
 

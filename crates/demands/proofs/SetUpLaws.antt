@@ -7,6 +7,7 @@ use native.Mathlib.Omega.{arith}
 use borrow.Author.Tests.{ltb-true, ltb-false}
 use lib.ListN.{length, getD-replicate, length-replicate, List·getD-eq-default}
 use lib.Dec.{ltb}
+use Rattle.basics.specs.Limits.{places}
 use Rattle.basics.proofs.Tests.{by-test}
 use Rattle.frame.specs.declared.Setup.{Setup}
 use Rattle.frame.specs.Frame.{isFramed}
@@ -20,9 +21,9 @@ use Rattle.demands.proofs.BoundLaws.{fresh-start}
 
 zero-at : (l : ℕ) → requestOf fresh l .left ≡ 0
 zero-at l =
-    by-test (ltb l 16)
-    (λ t. getD-replicate {A = ℕ} 16 l 0 0 (ltb-true l 16 t))
-    (λ f. List·getD-eq-default (fresh .left) 0 {n = l} (omega (arith, ltb-false l 16 f, length-replicate {A = ℕ} 16 0)))
+    by-test (ltb l places)
+    (λ t. getD-replicate {A = ℕ} places l 0 0 (ltb-true l places t))
+    (λ f. List·getD-eq-default (fresh .left) 0 {n = l} (omega (arith, ltb-false l places f, length-replicate {A = ℕ} places 0)))
 
 -- the fresh channel of a framed set-up, with any stores of the right lengths
 module _ (setup : Setup) (slave master : List ℕ) (framed : isFramed setup ≡ true) (n : length slave ≡ slaveStoreLength (setup .slaves))

@@ -7,6 +7,7 @@ use native.Mathlib.Omega.{arith}
 use borrow.Author.Tests.{eq-eqb}
 use lib.ListN.{length, getD}
 use lib.Dec.{eqb}
+use Rattle.basics.specs.Limits.{clockLimit}
 use Rattle.basics.proofs.Tests.{by-test}
 use Rattle.refusal.specs.Refusal.{isAccepted}
 use Rattle.frame.specs.Frame.{isFramed}
@@ -18,7 +19,6 @@ use Rattle.channel.specs.Channel.{hasRequest, requestOf, withRequest, Shaped}
 use Rattle.channel.specs.Line.{cleared, timed, lineRule}
 use Rattle.channel.proofs.RequestLaws.{request-other}
 use Rattle.channel.specs.Slave.{slaveOf}
-use Rattle.sound.specs.Sound.{clockLimit}
 use Rattle.sound.proofs.SoundFacts.{Sound, sound-is, accepted-is}
 use Rattle.post.specs.declared.Order.{Order}
 use Rattle.post.specs.Post.{requestIn, postVerdict, posted, postOf}

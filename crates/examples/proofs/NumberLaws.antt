@@ -8,6 +8,7 @@ use mathlib.Core.List.{List, [], _∷_, _++_}
 use lib.Dec.{eqb, ltb, leb}
 use lib.ListN.{getD, length}
 use borrow.Author.Tests.{eqb-true, eq-eqb, le-ltb, lt-ltb}
+use Rattle.basics.specs.Limits.{memoryEnd, stepsMost}
 use Rattle.basics.proofs.Tests.{by-test, and-left, and-right}
 use Rattle.refusal.specs.declared.Refusal.{Refusal}
 use Rattle.refusal.specs.Refusal.{numberOf, refusalBy, refusedBy, verdictNumber}
@@ -104,7 +105,7 @@ unfolding cycleCount
 count-number a n w p =
     by-test (not (isLength n && (isWidth w && isPort p)))
     (λ t. rw t)
-    (λ f. by-test (ltb 16777216 (a + n)) (λ t. rw (f, t)) (λ g. rw (f, g)))
+    (λ f. by-test (ltb memoryEnd (a + n)) (λ t. rw (f, t)) (λ g. rw (f, g)))
 
 pub ready-number : (setup : Setup) (ch : Channel) (slave master : ℕ)
     → verdictNumber (readyVerdict setup ch slave master) ≡ firstOf (unsound setup ch ∷ otherLength setup slave master ∷ [])
@@ -214,7 +215,7 @@ unfolding runOf readyVerdict
 run-number setup budget w k =
     by-test (unsound setup (w .channel) .1) (λ t. rw t) (λ f.
     by-test (otherLength setup (length (w .slave)) (length (w .master)) .1) (λ t. rw (f, t)) (λ g.
-    by-test (ltb 65535 budget) (λ t. rw (f, g, t)) (λ h.
+    by-test (ltb stepsMost budget) (λ t. rw (f, g, t)) (λ h.
     rw (f, g, h) (rw (zero-add budget) at (run-from setup budget 0 w (ready-start setup w k (rw (f, g)))) .1))))
 
 -- a logged run: 6 where it takes fewer and there is still room for a line
@@ -245,5 +246,5 @@ unfolding logOf readyVerdict
 log-number setup budget w p k =
     by-test (unsound setup (w .channel) .1) (λ t. rw t) (λ f.
     by-test (otherLength setup (length (w .slave)) (length (w .master)) .1) (λ t. rw (f, t)) (λ g.
-    by-test (ltb 65535 budget) (λ t. rw (f, g, t)) (λ h.
+    by-test (ltb stepsMost budget) (λ t. rw (f, g, t)) (λ h.
     rw (f, g, h) (rw (zero-add budget) at (log-from setup budget 0 w p (ready-start setup w k (rw (f, g)))) .1))))

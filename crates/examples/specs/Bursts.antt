@@ -1,7 +1,8 @@
 -- Document 01, "Both sides of the line": "A lingering burst asked at its grant, W and P of 4, 4,096 bytes from an aligned address".
-use Prim.Native.Nat.{ℕ}
+use Prim.Native.Nat.{ℕ, _-_}
 use mathlib.Core.List.{[], _∷_}
 use lib.ListN.{replicate}
+use Rattle.basics.specs.Limits.{rowsMost}
 use Rattle.frame.specs.declared.Setup.{Setup}
 use Rattle.frame.specs.Frame.{noLevel, noSlave}
 use Rattle.tally.specs.declared.Tally.{Tally}
@@ -15,8 +16,8 @@ use Rattle.step.specs.Run.{World}
 abbrev pub burstSetup : ℕ → ℕ → Setup
 burstSetup port time =
     record {
-      levels = record { rows = levelRow 3 4 5 ∷ levelRow 15 4 0 ∷ replicate 14 noLevel; count = 2 };
-      slaves = record { rows = slaveRow 1 0 4096 port time ∷ replicate 15 noSlave; count = 1 };
+      levels = record { rows = levelRow 3 4 5 ∷ levelRow 15 4 0 ∷ replicate (rowsMost - 2) noLevel; count = 2 };
+      slaves = record { rows = slaveRow 1 0 4096 port time ∷ replicate (rowsMost - 1) noSlave; count = 1 };
       master = 4096;
     }
 

@@ -8,6 +8,7 @@ use lib.Dec.{eqb, leb, ltb}
 use lib.ListN.{length}
 use Rattle.refusal.specs.Refusal.{numberOf}
 use Rattle.number.specs.Number.{bytesOf, hasRoom}
+use Rattle.basics.specs.Limits.{clockLimit, memoryEnd, stepsMost}
 use Rattle.cycle.specs.Cycle.{isLength, isWidth, isPort}
 use Rattle.frame.specs.declared.Setup.{Setup}
 use Rattle.frame.specs.Frame.{isFramed}
@@ -20,7 +21,7 @@ use Rattle.channel.specs.declared.Request.{Request}
 use Rattle.channel.specs.Channel.{hasRequest, requestOf}
 use Rattle.channel.specs.Slave.{slaveOf}
 use Rattle.sound.specs.Request.{isInRange, isInsideSlave, isOutsideMaster}
-use Rattle.sound.specs.Sound.{isSound, clockLimit}
+use Rattle.sound.specs.Sound.{isSound}
 use Rattle.post.specs.declared.Order.{Order}
 use Rattle.post.specs.Post.{requestIn}
 use Rattle.act.specs.Turn.{arbitrationTime}
@@ -62,7 +63,7 @@ postRows setup ch p =
 
 -- "3: .. cycle count: the same lengths, W not 2 or 4, P not 1, 2 or 4"; "4: .. cycle count: it ends above 16,777,216"
 abbrev pub countRows : ℕ → ℕ → ℕ → ℕ → List Row
-countRows a n w p = (3, not (isLength n && (isWidth w && isPort p))) ∷ (4, ltb 16777216 (a + n)) ∷ []
+countRows a n w p = (3, not (isLength n && (isWidth w && isPort p))) ∷ (4, ltb memoryEnd (a + n)) ∷ []
 
 -- "6: step: the clock would pass 4,000,000,000"; an idle step and a release without a request take no time
 abbrev pub isOver : Channel → ℕ → Bool
@@ -78,7 +79,7 @@ stepRows setup ch slave master = unsound setup ch ∷ otherLength setup slave ma
 -- "7: run: more than 65,535 steps"; a run that meets 6 stops before its budget is used up, and nothing else stops it
 abbrev pub runRows : Setup → ℕ → World → List Row
 runRows setup budget w =
-    unsound setup (w .channel) ∷ otherLength setup (length (w .slave)) (length (w .master)) ∷ (7, ltb 65535 budget)
+    unsound setup (w .channel) ∷ otherLength setup (length (w .slave)) (length (w .master)) ∷ (7, ltb stepsMost budget)
     ∷ (6, ltb (runOf setup budget w .result .steps) budget) ∷ []
 
 -- a logged run is refused as a run is; where it stops before its budget is used up, it was 6 while there is room for another line

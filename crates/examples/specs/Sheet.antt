@@ -1,8 +1,9 @@
 -- Document 01, "One sheet, whole": the sheet, what it holds, and its log.
-use Prim.Native.Nat.{ℕ}
+use Prim.Native.Nat.{ℕ, _-_}
 use Prim.Native.String.{String}
 use mathlib.Core.List.{List, [], _∷_}
 use lib.ListN.{replicate}
+use Rattle.basics.specs.Limits.{rowsMost}
 use Rattle.frame.specs.declared.LevelRow.{LevelRow}
 use Rattle.frame.specs.declared.SlaveRow.{SlaveRow}
 use Rattle.frame.specs.declared.Setup.{Setup}
@@ -37,10 +38,10 @@ setup =
     record {
       levels =
           record {
-            rows = levelRow 3 4 3 ∷ levelRow 7 2 2 ∷ levelRow 15 4 0 ∷ replicate 13 noLevel;
+            rows = levelRow 3 4 3 ∷ levelRow 7 2 2 ∷ levelRow 15 4 0 ∷ replicate (rowsMost - 3) noLevel;
             count = 3;
           };
-      slaves = record { rows = slaveRow 1 4096 16 2 200 ∷ replicate 15 noSlave; count = 1 };
+      slaves = record { rows = slaveRow 1 4096 16 2 200 ∷ replicate (rowsMost - 1) noSlave; count = 1 };
       master = 4096;
     }
 

@@ -4,18 +4,19 @@ use mathlib.Core.Path.{_≡_, refl, sym, _∙_}
 use mathlib.Core.Bool.{true, false, false≢true}
 use native.Mathlib.Omega.{arith}
 use lib.ListN.{getD-replicate}
+use Rattle.basics.specs.Limits.{places}
 use Rattle.frame.specs.declared.Setup.{Setup}
 use Rattle.channel.specs.Channel.{fresh, hasRequest, requestOf}
 use Rattle.sound.specs.Sound.{isBlank}
 use Rattle.sound.proofs.SoundFacts.{Sound}
 
 -- no level has a request
-fresh-none : (l : ℕ) → l < 16 → hasRequest (fresh .left) l ≡ false
-fresh-none l k = rw (getD-replicate {A = ℕ} 16 l 0 0 k)
+fresh-none : (l : ℕ) → l < places → hasRequest (fresh .left) l ≡ false
+fresh-none l k = rw (getD-replicate {A = ℕ} places l 0 0 k)
 
-fresh-blank : (l : ℕ) → l < 16 → isBlank (requestOf fresh l) ≡ true
+fresh-blank : (l : ℕ) → l < places → isBlank (requestOf fresh l) ≡ true
 unfolding isBlank
-fresh-blank l k = rw (getD-replicate {A = ℕ} 16 l 0 0 k)
+fresh-blank l k = rw (getD-replicate {A = ℕ} places l 0 0 k)
 
 pub fresh-sound : (setup : Setup) → Sound setup fresh
 fresh-sound setup =
@@ -25,11 +26,11 @@ fresh-sound setup =
             owner = λ o e. let z : _≡_ {A = ℕ} 0 1 = cc in absurd (omega arith);
             request = λ l k e. absurd (false≢true (sym (fresh-none l k) ∙ e));
             blank = λ l k e. fresh-blank l k;
-            fair = λ l k e. absurd (false≢true (sym (getD-replicate 16 l false false k) ∙ e));
+            fair = λ l k e. absurd (false≢true (sym (getD-replicate places l false false k) ∙ e));
             clock = omega arith;
             unasked = λ e. refl;
             asked = λ o t e a. let z : _≡_ {A = ℕ} 0 1 = cc in absurd (omega arith);
           };
-      marked = λ l k e. absurd (false≢true (sym (getD-replicate 16 l false false k) ∙ e));
+      marked = λ l k e. absurd (false≢true (sym (getD-replicate places l false false k) ∙ e));
       quiet = λ o e a. let z : _≡_ {A = ℕ} 0 1 = cc in absurd (omega arith);
     }

@@ -10,6 +10,7 @@ use lib.ListN.{getD}
 use Rattle.refusal.specs.Refusal.{isAccepted}
 use Rattle.refusal.specs.declared.Refusal.{Refusal}
 use Rattle.refusal.specs.declared.Verdict.the-variants.{Accepted, Refused}
+use Rattle.basics.specs.Limits.{systemMaster}
 use Rattle.basics.proofs.Tests.{by-test, and-left, and-right}
 use Rattle.frame.specs.Frame.{isFramed}
 use Rattle.frame.specs.declared.Setup.{Setup}
@@ -62,7 +63,7 @@ module _ (setup : Setup) (ch : Channel) (p : Order) (shaped : Shaped ch) (ok : A
   s : Settled setup ch
   s = sound-is setup ch (ok .sound) .settled
 
-  small : p .level ≤ 15
+  small : p .level ≤ systemMaster
   small = level-facts-of setup (ok .framed) (p .level) (ok .present) .1
 
   fits : Fits setup (p .level) (requestIn p)

@@ -5,6 +5,7 @@ use mathlib.Core.Path.{_≡_, refl, sym, ap, _∙_}
 use mathlib.Core.Bool.{Bool, true, false, cond, _&&_}
 use mathlib.Core.List.{List, _∷_}
 use lib.Dec.{eqb, leb, ltb}
+use Rattle.basics.specs.Limits.{rowsMost, stepsMost, eventsMost}
 use Rattle.refusal.specs.declared.Refusal.{Refusal}
 use Rattle.refusal.specs.declared.Refusal.the-variants.{BadEdition, BadEvents, Follows}
 use Rattle.number.specs.declared.NumberRead.{NumberRead}
@@ -102,11 +103,11 @@ module _ (a b : Source) (to : ℕ → ℕ) (same : (i : ℕ) → a (to i) ≡ mo
 
   counted-moved : (kind : Rows) (at : ℕ) → counted kind a (to at) ≡ movedTo to (counted kind b at)
   unfolding counted
-  counted-moved kind at = ranged-moved 1 16 (kind .why) at _ _ (λ n next. rows-moved kind n 0 (kind .none n) next)
+  counted-moved kind at = ranged-moved 1 rowsMost (kind .why) at _ _ (λ n next. rows-moved kind n 0 (kind .none n) next)
 
   steps-moved : (at : ℕ) → stepCount a (to at) ≡ movedTo to (stepCount b at)
   unfolding stepCount
-  steps-moved at = ranged-moved 1 65535 BadEvents at _ _ (λ n next. refl)
+  steps-moved at = ranged-moved 1 stepsMost BadEvents at _ _ (λ n next. refl)
 
   event-moved : (at : ℕ) → event a (to at) ≡ movedTo to (event b at)
   unfolding event
@@ -119,7 +120,7 @@ module _ (a b : Source) (to : ℕ → ℕ) (same : (i : ℕ) → a (to i) ≡ mo
 
   counted-events-moved : (at : ℕ) → countedEvents a (to at) ≡ movedTo to (countedEvents b at)
   unfolding countedEvents
-  counted-events-moved at = ranged-moved 0 1024 BadEvents at _ _ (λ n next. events-moved n next)
+  counted-events-moved at = ranged-moved 0 eventsMost BadEvents at _ _ (λ n next. events-moved n next)
 
   -- the two sheets begin together and end together
   module _ (la lb : ℕ) (ends : (i : ℕ) → ltb (to i) la ≡ ltb i lb) where

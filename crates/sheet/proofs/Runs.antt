@@ -6,6 +6,7 @@ use native.Mathlib.Nat.{suc-add, zero-add, suc-mul, mul-le-mul-right}
 use native.Mathlib.Omega.{arith}
 use borrow.Author.Tests.{leb-true}
 use lib.Dec.{eqb, leb, ltb}
+use Rattle.basics.specs.Limits.{rowsMost, stepsMost, eventsMost}
 use Rattle.basics.proofs.Tests.{by-test, and-right}
 use Rattle.refusal.specs.Refusal.{numberOf}
 use Rattle.refusal.specs.declared.Refusal.{Refusal}
@@ -107,32 +108,33 @@ module _ (src : Source) where
       (tells-then (past-tells (kind .size) at) (λ next.
       tells-cond (kind .fits more i) (rows-tell kind other left (i + 1) more next) (fault (λ e. absurd (other e)))))
 
-  counted-tells : (kind : Rows) → (numberOf (kind .why) ≡ 11 → ⊥) → (at : ℕ) → Tells src (suc (16 * kind .size)) at (counted kind src at)
+  counted-tells : (kind : Rows) → (numberOf (kind .why) ≡ 11 → ⊥) → (at : ℕ)
+      → Tells src (suc (rowsMost * kind .size)) at (counted kind src at)
   unfolding counted
   counted-tells kind other at =
-      tells-ranged 1 16 (kind .why) at other (λ n next h.
+      tells-ranged 1 rowsMost (kind .why) at other (λ n next h.
       tells-less (mul-le-mul-right (kind .size) h) (rows-tell kind other n 0 (kind .none n) next))
 
   event-tells : (at : ℕ) → Tells src 7 at (event src at)
   unfolding event stepCount
   event-tells at =
       tells-ranged 0 1 BadEvents at (λ e. omega arith) (λ kind next h.
-      tells-cond (eqb kind 0) (tells-ranged 1 65535 BadEvents next (λ e. omega arith) (λ n end k. tells-none)) (past-tells 6 next))
+      tells-cond (eqb kind 0) (tells-ranged 1 stepsMost BadEvents next (λ e. omega arith) (λ n end k. tells-none)) (past-tells 6 next))
 
   events-tell : (n at : ℕ) → Tells src (n * 7) at (events src n at)
   events-tell zero at = tells-none
   events-tell (suc n) at = tells-less (omega arith) (tells-then (event-tells at) (events-tell n))
 
-  all-events-tell : (at : ℕ) → Tells src 7169 at (countedEvents src at)
+  all-events-tell : (at : ℕ) → Tells src (suc (eventsMost * 7)) at (countedEvents src at)
   unfolding countedEvents
-  all-events-tell at = tells-ranged 0 1024 BadEvents at (λ e. omega arith) (λ n next h. tells-less (omega arith) (events-tell n next))
+  all-events-tell at = tells-ranged 0 eventsMost BadEvents at (λ e. omega arith) (λ n next h. tells-less (omega arith) (events-tell n next))
 
   -- A good sheet is a run of at most 7,300 numbers, and an 11 is the source's.
   pub sheet-tells : (len : ℕ) → Tells src 7300 0 (sheet src len)
   unfolding sheet body
   sheet-tells len =
       tells-ranged 1 1 BadEdition 0 (λ e. omega arith) (λ edition first h.
-      tells-then {k = 7250} (counted-tells levels (λ e. omega arith) first) (λ second.
-      tells-then {k = 7169} (counted-tells slaves (λ e. omega arith) second) (λ third.
+      tells-then {k = suc (rowsMost * 5) + suc (eventsMost * 7)} (counted-tells levels (λ e. omega arith) first) (λ second.
+      tells-then {k = suc (eventsMost * 7)} (counted-tells slaves (λ e. omega arith) second) (λ third.
       tells-then {k = 0} (all-events-tell third) (λ end.
       tells-cond (ltb end len) (fault (λ e. absurd (omega arith))) tells-none))))

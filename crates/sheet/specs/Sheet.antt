@@ -8,6 +8,7 @@ use lib.Seq.{sets}
 use lib.Dec.{eqb, leb, ltb}
 use Rattle.refusal.specs.declared.Refusal.{Refusal}
 use Rattle.refusal.specs.Refusal.{numberOf, refusalBy}
+use Rattle.basics.specs.Limits.{rowsMost, stepsMost, eventsMost}
 use Rattle.number.specs.declared.NumberRead.{NumberRead}
 use Rattle.number.specs.declared.NumberRead.the-variants.{Number, Refused as NoNumber}
 use Rattle.number.specs.Number.{readAt, bytesOf}
@@ -81,7 +82,7 @@ levels =
       Table = LevelRows;
       size = 3;
       why = refusalBy 13;
-      none = λ count. record { rows = replicate 16 noLevel; count = count };
+      none = λ count. record { rows = replicate rowsMost noLevel; count = count };
       put = λ table i row. withLevel table i (levelOf row);
       fits = levelRowFits;
     }
@@ -100,7 +101,7 @@ slaves =
       Table = SlaveRows;
       size = 5;
       why = refusalBy 14;
-      none = λ count. record { rows = replicate 16 noSlave; count = count };
+      none = λ count. record { rows = replicate rowsMost noSlave; count = count };
       put = λ table i row. withSlave table i (slaveOf row);
       fits = slaveRowFits;
     }
@@ -116,12 +117,12 @@ rowsFrom kind src (suc left) i table at =
 
 -- "A set-up has 1 to 16 level rows, 1 to 16 slave rows": the count and the rows
 unfoldable pub counted : Rows → Source → ℕ → Judged
-counted kind src at = withNumber (between src 1 16 (kind .why) at) (λ n next. rowsFrom kind src n 0 (kind .none n) next)
+counted kind src at = withNumber (between src 1 rowsMost (kind .why) at) (λ n next. rowsFrom kind src n 0 (kind .none n) next)
 
 -- "An event is 0 and a step count 1 to 65,535, or 1, level, direction, space, address, length, offset. Post fields may hold
 -- any number"; "15: event count, kind or step count out of range"
 unfoldable pub stepCount : Source → ℕ → Judged
-stepCount src at = withNumber (between src 1 65535 (refusalBy 15) at) (λ steps next. Good next)
+stepCount src at = withNumber (between src 1 stepsMost (refusalBy 15) at) (λ steps next. Good next)
 
 unfoldable pub event : Source → ℕ → Judged
 event src at =
@@ -133,7 +134,7 @@ events src (suc n) at = andThen (event src at) (events src n)
 
 -- "event count, 0 to 1,024, and events"
 unfoldable pub countedEvents : Source → ℕ → Judged
-countedEvents src at = withNumber (between src 0 1024 (refusalBy 15) at) (λ n next. events src n next)
+countedEvents src at = withNumber (between src 0 eventsMost (refusalBy 15) at) (λ n next. events src n next)
 
 -- "16: something follows the end"
 abbrev pub ended : ℕ → ℕ → Judged

@@ -1,5 +1,9 @@
 // The job sheet (document 01, "The job sheet"): its reader, from bytes to the list of its numbers, and its writer, from
 // the list to bytes. One judge serves both: it reads numbers from the bytes or from the list.
+use basics::EVENTS_MOST;
+use basics::ROWS_MOST;
+use basics::ROWS_MOST_U32;
+use basics::STEPS_MOST;
 use frame::LevelRow;
 use frame::LevelRows;
 use frame::SlaveRow;
@@ -11,6 +15,7 @@ ghost use mathlib.Core.Path.{_≡_};
 ghost use Prim.Native.Nat.{_≤_};
 ghost use lib.ListN.{length};
 ghost use lib.Seq.{sets};
+ghost use Rattle.basics.specs.Limits.{rowsMost};
 ghost use Rattle.sheet.specs.Sheet.{between};
 ghost use Rattle.sheet.specs.Judge.{source, lengthOf, taken, levelRead, slaveRead};
 ghost use Rattle.sheet.specs.Sheet.{levels, slaves, rowsFrom, counted, stepCount, event, events, countedEvents, ended, body, sheet};
@@ -149,7 +154,7 @@ fn slave_at(bytes: &[u8], list: &[u32], listed: bool, at: usize) -> SlaveRead
 
 // The level rows from a place on. A row is put into the table when all its numbers are read, and then tested.
 fn judge_level_rows(bytes: &[u8], list: &[u32], listed: bool, count: usize, at: usize) -> Judged
-    requires { ⌜ count ≤ 16 ⌝ }
+    requires { ⌜ count ≤ rowsMost ⌝ }
     ensures { λ r. ⌜ r ≡ rowsFrom levels (source listed (now (bytes .entry)) (now (list .entry))) count 0 (levels .none count) at ⌝ }
 {
     let none = LevelRow {
@@ -157,7 +162,7 @@ fn judge_level_rows(bytes: &[u8], list: &[u32], listed: bool, count: usize, at: 
         width: 0,
         options: 0,
     };
-    let mut rows = [none; 16];
+    let mut rows = [none; ROWS_MOST];
     let mut i: usize = 0;
     let mut place = at;
     while i < count {
@@ -180,7 +185,7 @@ fn judge_level_rows(bytes: &[u8], list: &[u32], listed: bool, count: usize, at: 
 
 // The slave rows from a place on, as the level rows.
 fn judge_slave_rows(bytes: &[u8], list: &[u32], listed: bool, count: usize, at: usize) -> Judged
-    requires { ⌜ count ≤ 16 ⌝ }
+    requires { ⌜ count ≤ rowsMost ⌝ }
     ensures { λ r. ⌜ r ≡ rowsFrom slaves (source listed (now (bytes .entry)) (now (list .entry))) count 0 (slaves .none count) at ⌝ }
 {
     let none = SlaveRow {
@@ -190,7 +195,7 @@ fn judge_slave_rows(bytes: &[u8], list: &[u32], listed: bool, count: usize, at: 
         port: 0,
         time: 0,
     };
-    let mut rows = [none; 16];
+    let mut rows = [none; ROWS_MOST];
     let mut i: usize = 0;
     let mut place = at;
     while i < count {
@@ -215,7 +220,15 @@ fn judge_slave_rows(bytes: &[u8], list: &[u32], listed: bool, count: usize, at: 
 fn judge_levels(bytes: &[u8], list: &[u32], listed: bool, at: usize) -> Judged
     ensures { λ r. ⌜ r ≡ counted levels (source listed (now (bytes .entry)) (now (list .entry))) at ⌝ }
 {
-    let got = number_between(bytes, list, listed, 1, 16, Refusal::BadLevels, at);
+    let got = number_between(
+        bytes,
+        list,
+        listed,
+        1,
+        ROWS_MOST_U32,
+        Refusal::BadLevels,
+        at,
+    );
     match got {
         NumberRead::Refused(why, place) => Judged::Fault(why, place),
         NumberRead::Number(n, next) => judge_level_rows(bytes, list, listed, n as usize, next),
@@ -226,7 +239,15 @@ fn judge_levels(bytes: &[u8], list: &[u32], listed: bool, at: usize) -> Judged
 fn judge_slaves(bytes: &[u8], list: &[u32], listed: bool, at: usize) -> Judged
     ensures { λ r. ⌜ r ≡ counted slaves (source listed (now (bytes .entry)) (now (list .entry))) at ⌝ }
 {
-    let got = number_between(bytes, list, listed, 1, 16, Refusal::BadSlaves, at);
+    let got = number_between(
+        bytes,
+        list,
+        listed,
+        1,
+        ROWS_MOST_U32,
+        Refusal::BadSlaves,
+        at,
+    );
     match got {
         NumberRead::Refused(why, place) => Judged::Fault(why, place),
         NumberRead::Number(n, next) => judge_slave_rows(bytes, list, listed, n as usize, next),
@@ -255,7 +276,7 @@ fn judge_event(bytes: &[u8], list: &[u32], listed: bool, at: usize) -> Judged
 fn judge_step_count(bytes: &[u8], list: &[u32], listed: bool, at: usize) -> Judged
     ensures { λ r. ⌜ r ≡ stepCount (source listed (now (bytes .entry)) (now (list .entry))) at ⌝ }
 {
-    let got = number_between(bytes, list, listed, 1, 65535, Refusal::BadEvents, at);
+    let got = number_between(bytes, list, listed, 1, STEPS_MOST, Refusal::BadEvents, at);
     match got {
         NumberRead::Refused(why, place) => Judged::Fault(why, place),
         NumberRead::Number(_, next) => Judged::Good(next),
@@ -283,7 +304,7 @@ fn judge_events(bytes: &[u8], list: &[u32], listed: bool, n: usize, at: usize) -
 fn judge_counted_events(bytes: &[u8], list: &[u32], listed: bool, at: usize) -> Judged
     ensures { λ r. ⌜ r ≡ countedEvents (source listed (now (bytes .entry)) (now (list .entry))) at ⌝ }
 {
-    let got = number_between(bytes, list, listed, 0, 1024, Refusal::BadEvents, at);
+    let got = number_between(bytes, list, listed, 0, EVENTS_MOST, Refusal::BadEvents, at);
     match got {
         NumberRead::Refused(why, place) => Judged::Fault(why, place),
         NumberRead::Number(n, next) => judge_events(bytes, list, listed, n as usize, next),

@@ -11,6 +11,7 @@ use native.Mathlib.Omega.{arith}
 use borrow.Author.Tests.{lt-ltb}
 use lib.ListN.{length, getD}
 use lib.Dec.{eqb}
+use Rattle.basics.specs.Limits.{stepsMost, eventsMost}
 use Rattle.basics.proofs.Tests.{by-test}
 use Rattle.refusal.specs.declared.Refusal.the-variants.{BadEvents}
 use Rattle.sheet.specs.declared.Judged.the-variants.{Good}
@@ -30,13 +31,13 @@ module _ (list : List ℕ) where
   record StepCount (at next : ℕ) : Type 0 where
     next-is : next ≡ at + 1
     least : 1 ≤ getD list at 0
-    most : getD list at 0 ≤ 65535
+    most : getD list at 0 ≤ stepsMost
 
   step-count : (at : ℕ) {next : ℕ} → stepCount (listAt list) at ≡ Good next → StepCount at next
   unfolding stepCount
   step-count at {next} e =
-      let w = with-good (between (listAt list) 1 65535 BadEvents at) (λ n to. Good to) e in
-      let r = in-range (listAt list) 1 65535 BadEvents at (w .2) in
+      let w = with-good (between (listAt list) 1 stepsMost BadEvents at) (λ n to. Good to) e in
+      let r = in-range (listAt list) 1 stepsMost BadEvents at (w .2) in
       let s = stands list at (r .stands) in
       let same : w .1 ≡ next = good-one (w .3) in
       record {
@@ -50,7 +51,7 @@ module _ (list : List ℕ) where
     pub inside : at < length list
     pub kind : getD list at 0 ≤ 1
     pub next-is : next ≡ nextEvent list at
-    pub steps : isSteps list at ≡ true → (1 ≤ getD list (at + 1) 0) × (getD list (at + 1) 0 ≤ 65535)
+    pub steps : isSteps list at ≡ true → (1 ≤ getD list (at + 1) 0) × (getD list (at + 1) 0 ≤ stepsMost)
 
   event-from : (at kind to : ℕ) {next : ℕ} → kind ≡ getD list at 0 → kind ≤ 1 → to ≡ at + 1 → at < length list
       → cond (eqb kind 0) (stepCount (listAt list) to) (past (listAt list) 6 to) ≡ Good next → Event-good at next
@@ -110,8 +111,8 @@ module _ (list : List ℕ) where
   unfolding countedEvents eventCount eventFrom
   events-all g =
       let e = rw (list-whole list g .0) at (events-placed list g) in
-      let w = with-good (between (listAt list) 0 1024 BadEvents (eventsFrom list)) (λ n next. events (listAt list) n next) e in
-      let s = stands list (eventsFrom list) (in-range (listAt list) 0 1024 BadEvents (eventsFrom list) (w .2) .stands) in
+      let w = with-good (between (listAt list) 0 eventsMost BadEvents (eventsFrom list)) (λ n next. events (listAt list) n next) e in
+      let s = stands list (eventsFrom list) (in-range (listAt list) 0 eventsMost BadEvents (eventsFrom list) (w .2) .stands) in
       events-good (eventCount list) 0 (eventCount list) (sym (zero-add (eventCount list))) (rw (s .value, s .next-is) at (w .3))
 
   -- Every event of a valid list passes the judge where the walk comes to it.
@@ -119,12 +120,12 @@ module _ (list : List ℕ) where
       → Event-good (eventFrom list i) (eventFrom list (suc i))
   event-each g i h = events-all g .each i (omega arith) h
 
-  pub few-events : {end : ℕ} → sheet (listAt list) (length list) ≡ Good end → eventCount list ≤ 1024
+  pub few-events : {end : ℕ} → sheet (listAt list) (length list) ≡ Good end → eventCount list ≤ eventsMost
   unfolding countedEvents eventCount
   few-events g =
-      let w = with-good (between (listAt list) 0 1024 BadEvents (eventsFrom list)) (λ n next. events (listAt list) n next)
+      let w = with-good (between (listAt list) 0 eventsMost BadEvents (eventsFrom list)) (λ n next. events (listAt list) n next)
       (events-placed list g) in
-      let r = in-range (listAt list) 0 1024 BadEvents (eventsFrom list) (w .2) in
+      let r = in-range (listAt list) 0 eventsMost BadEvents (eventsFrom list) (w .2) in
       omega (arith, r .most, stands list (eventsFrom list) (r .stands) .value)
 
   -- where an event of each kind ends
@@ -142,7 +143,7 @@ module _ (list : List ℕ) where
 
   -- Every event of a valid list that is no post is of 1 to 65,535 steps.
   pub steps-in-range : {end : ℕ} (i n : ℕ) → sheet (listAt list) (length list) ≡ Good end → i < eventCount list → eventOf list i ≡ Steps n
-      → (1 ≤ n) × (n ≤ 65535)
+      → (1 ≤ n) × (n ≤ stepsMost)
   unfolding eventOf eventAt
   steps-in-range i n g h e =
       let at = eventFrom list i in

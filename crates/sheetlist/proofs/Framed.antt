@@ -9,6 +9,7 @@ use native.Mathlib.Numerals.{add-one}
 use native.Mathlib.Omega.{arith}
 use borrow.Author.Tests.{le-leb}
 use lib.ListN.{length, getD, take}
+use Rattle.basics.specs.Limits.{rowsMost, storeMost}
 use Rattle.basics.specs.Scan.{allBelow}
 use Rattle.basics.proofs.ScanLaws.{all-intro}
 use Rattle.basics.proofs.Tests.{and-both}
@@ -98,21 +99,23 @@ module _ (list : List ℕ) where
   -- a section that was judged: its count, its rows, and where it ends
   record Section (kind : Rows) (at end : ℕ) : Type 0 where
     few : isRowCount (getD list at 0) ≡ true
-    most : getD list at 0 ≤ 16
+    most : getD list at 0 ≤ rowsMost
     fit : Fit kind (at + 1) (getD list at 0) (getD list at 0)
     ends : end ≡ at + 1 + getD list at 0 * kind .size
 
   section-held : (kind : Rows) (at : ℕ) {end : ℕ} → counted kind (listAt list) at ≡ Good end → Section kind at end
   unfolding counted isRowCount Fit
   section-held kind at {end} e =
-      let w = with-good (between (listAt list) 1 16 (kind .why) at) (λ n next. rowsFrom kind (listAt list) n 0 (kind .none n) next) e in
-      let r = in-range (listAt list) 1 16 (kind .why) at (w .2) in
+      let w =
+      with-good (between (listAt list) 1 rowsMost (kind .why) at) (λ n next. rowsFrom kind (listAt list) n 0 (kind .none n) next) e
+      in
+      let r = in-range (listAt list) 1 rowsMost (kind .why) at (w .2) in
       let s = stands list at (r .stands) in
       let n = getD list at 0 in
       let h = rows-held kind (at + 1) n n 0 n (sym (zero-add n)) (λ j l. absurd (omega arith))
       (counted-rows kind (w .0) (w .1) at (s .value) (s .next-is) (w .3)) in
       record {
-        few = and-both _ _ (le-leb 1 n (omega (arith, r .least, s .value))) (le-leb n 16 (omega (arith, r .most, s .value)));
+        few = and-both _ _ (le-leb 1 n (omega (arith, r .least, s .value))) (le-leb n rowsMost (omega (arith, r .most, s .value)));
         most = omega (arith, r .most, s .value);
         fit = h .0;
         ends = h .1;
@@ -175,7 +178,7 @@ module _ (list : List ℕ) where
   events-placed g = places g .events-good
 
   -- The set-up of a valid list keeps the frame, for every master length of 1 to 65,536.
-  pub setup-framed : (master : ℕ) {end : ℕ} → sheet (listAt list) (length list) ≡ Good end → 1 ≤ master → master ≤ 65536
+  pub setup-framed : (master : ℕ) {end : ℕ} → sheet (listAt list) (length list) ≡ Good end → 1 ≤ master → master ≤ storeMost
       → isFramed (setupOf list master) ≡ true
   unfolding isFramed isMasterLength levelsFit slavesFit setupOf levelsOf slavesOf levelCount slaveCount
   setup-framed master g low high =
@@ -185,11 +188,11 @@ module _ (list : List ℕ) where
       (and-both _ _
       (whole-fits slaves (slavesFrom list) slaves-steady (p .slave-rows) (λ t. t .count)
       (slave-count (slavesFrom list + 1) (slaveCount list)) (slavesOf list) refl)
-      (and-both _ _ (le-leb 1 master low) (le-leb master 65536 high)))
+      (and-both _ _ (le-leb 1 master low) (le-leb master storeMost high)))
 
 -- What was read from a sheet holds a set-up that keeps the frame.
 pub read-framed : (bytes out : List ℕ) (master : ℕ) {n : ℕ} → Bytes bytes → readAnswer bytes (length out) ≡ Done n → 1 ≤ master
-    → master ≤ 65536
+    → master ≤ storeMost
     → isFramed (setupOf (take n (readStored bytes out)) master) ≡ true
 read-framed bytes out master y e low high =
     let r = read-list bytes out y e in

@@ -11,6 +11,7 @@ use borrow.Author.Tests.{ltb-true, ltb-false}
 use lib.ListN.{length, getD, length-set}
 use lib.Seq.{getD-set-same}
 use lib.Dec.{ltb}
+use Rattle.basics.specs.Limits.{rowsMost, storeMost}
 use Rattle.basics.proofs.Tests.{by-test}
 use Rattle.cycle.proofs.Widths.{width-some, port-some}
 use Rattle.number.specs.Number.{shortest, bytesOf, readAt, Bytes}
@@ -79,9 +80,9 @@ module _ (list : List ℕ) where
 
   -- the rows of a table are those that were put there
   module _ {A : Type 0} (kind : Rows) (from count : ℕ) (rowAt : kind .Table → ℕ → A) (rowOf : List ℕ → A)
-      (put : (i : ℕ) (row : List ℕ) → i < 16 → rowAt (kind .put (table kind list from count i) i row) i ≡ rowOf row)
+      (put : (i : ℕ) (row : List ℕ) → i < rowsMost → rowAt (kind .put (table kind list from count i) i row) i ≡ rowOf row)
       (kept : (t : kind .Table) (i j : ℕ) (row : List ℕ) → j < i → rowAt (kind .put t i row) j ≡ rowAt t j) where
-    table-row : (n j : ℕ) → j < n → n ≤ 16
+    table-row : (n j : ℕ) → j < n → n ≤ rowsMost
         → rowAt (table kind list from count n) j ≡ rowOf (numbers (listAt list) (kind .size) (from + j * kind .size))
     table-row zero j h m = absurd (omega arith)
     table-row (suc n) j h m =
@@ -91,22 +92,22 @@ module _ (list : List ℕ) where
         (λ l. kept (table kind list from count n) n j row l ∙ table-row n j l (omega arith))
         (eq-or-lt-of-le (le-of-suc-le-suc h))
 
-  level-length : (from count i : ℕ) → length (table levels list from count i .rows) ≡ 16
+  level-length : (from count i : ℕ) → length (table levels list from count i .rows) ≡ rowsMost
   level-length from count zero = refl
   level-length from count (suc i) = simp length-set (level-length from count i)
 
-  slave-length : (from count i : ℕ) → length (table slaves list from count i .rows) ≡ 16
+  slave-length : (from count i : ℕ) → length (table slaves list from count i .rows) ≡ rowsMost
   slave-length from count zero = refl
   slave-length from count (suc i) = simp length-set (slave-length from count i)
 
-  level-row : (from count n j : ℕ) → j < n → n ≤ 16
+  level-row : (from count n j : ℕ) → j < n → n ≤ rowsMost
       → levelAt (table levels list from count n) j ≡ levelOf (numbers (listAt list) 3 (from + j * 3))
   level-row from count =
       table-row levels from count levelAt levelOf
       (λ i row h. getD-set-same (table levels list from count i .rows) i (levelOf row) noLevel (omega (arith, level-length from count i)))
       (λ t i j row h. level-kept t i j (levelOf row) h)
 
-  slave-row : (from count n j : ℕ) → j < n → n ≤ 16
+  slave-row : (from count n j : ℕ) → j < n → n ≤ rowsMost
       → slaveAt (table slaves list from count n) j ≡ slaveOf (numbers (listAt list) 5 (from + j * 5))
   slave-row from count =
       table-row slaves from count slaveAt slaveOf
@@ -122,10 +123,10 @@ module _ (list : List ℕ) where
     unfolding setupOf
     slaves-framed = framed-slaves (setupOf list 1) (setup-framed list 1 valid (omega arith) (omega arith))
 
-    few-levels : levelCount list ≤ 16
+    few-levels : levelCount list ≤ rowsMost
     few-levels = omega (arith, level-count (levelsOf list) levels-framed, levels-counted list)
 
-    few-slaves : slaveCount list ≤ 16
+    few-slaves : slaveCount list ≤ rowsMost
     few-slaves = omega (arith, slave-count (slavesOf list) slaves-framed, slaves-counted list)
 
     level-facts : (j : ℕ) → j < levelCount list → LevelFacts (levelOf (numbers (listAt list) 3 (2 + j * 3)))
@@ -174,7 +175,7 @@ module _ (list : List ℕ) where
       base : getD list (at + 1) 0 < 268435456
       length-is : slaveAt (slavesOf list) j .length ≡ getD list (at + 2) 0
       least : 4 ≤ getD list (at + 2) 0
-      most : lengthsBefore (slavesOf list) j + getD list (at + 2) 0 ≤ 65536
+      most : lengthsBefore (slavesOf list) j + getD list (at + 2) 0 ≤ storeMost
       port : getD list (at + 3) 0 < 128
       time : getD list (at + 4) 0 < 16384
 
@@ -267,7 +268,7 @@ module _ (list : List ℕ) where
         let last : place list (eventFrom list (eventCount list)) ≡ length (allBytes list) =
         ap (place list) (events-end list valid) ∙ place-end list (length list) (omega arith) in
         let all : present (slavesOf list .count) ≡ m = omega (arith, slaves-counted list, few-slaves) in
-        let lengths : lengthsBefore (slavesOf list) m ≤ 65536 = rw all at (store-most (slavesOf list) slaves-framed) in
+        let lengths : lengthsBefore (slavesOf list) m ≤ storeMost = rw all at (store-most (slavesOf list) slaves-framed) in
         omega (
           arith,
           levels-sized n (omega arith),

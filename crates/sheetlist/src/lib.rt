@@ -1,5 +1,7 @@
 // What the list of a valid sheet holds (document 01, "The job sheet"): its set-up and its events. Every call takes any
 // list; of one that no valid sheet has, the answer is of no interest.
+use basics::ROWS_MOST;
+use basics::ROWS_MOST_U32;
 use frame::LevelRow;
 use frame::LevelRows;
 use frame::Setup;
@@ -86,13 +88,13 @@ fn levels_of(list: &[u32]) -> LevelRows
     ensures { λ r. ⌜ r ≡ levelsOf (now (list .entry)) ⌝ }
 {
     let count = number_in(list, 1);
-    let present = basics::smaller(count, 16) as usize;
+    let present = basics::smaller(count, ROWS_MOST_U32) as usize;
     let none = LevelRow {
         level: 0,
         width: 0,
         options: 0,
     };
-    let mut rows = [none; 16];
+    let mut rows = [none; ROWS_MOST];
     let mut i: usize = 0;
     while i < present {
         let row = level_in(list, 2 + i * 3);
@@ -109,7 +111,7 @@ fn slaves_of(list: &[u32]) -> SlaveRows
 {
     let from = slaves_from(list);
     let count = number_in(list, from);
-    let present = basics::smaller(count, 16) as usize;
+    let present = basics::smaller(count, ROWS_MOST_U32) as usize;
     let none = SlaveRow {
         space: 0,
         base: 0,
@@ -117,7 +119,7 @@ fn slaves_of(list: &[u32]) -> SlaveRows
         port: 0,
         time: 0,
     };
-    let mut rows = [none; 16];
+    let mut rows = [none; ROWS_MOST];
     let mut i: usize = 0;
     while i < present {
         let row = slave_in(list, from + 1 + i * 5);

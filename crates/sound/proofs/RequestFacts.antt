@@ -7,6 +7,7 @@ use borrow.Author.Tests.{leb-true, le-leb, ltb-false, le-ltb}
 use lib.Dec.{leb}
 use Rattle.refusal.specs.declared.Refusal.{Refusal}
 use Rattle.refusal.specs.declared.Verdict.the-variants.{Accepted, Refused}
+use Rattle.basics.specs.Limits.{requestMost}
 use Rattle.basics.proofs.Tests.{by-test, need}
 use Rattle.cycle.specs.Cycle.{isLength}
 use Rattle.cycle.proofs.TransferLaws.{time-most}
@@ -25,7 +26,7 @@ use Rattle.sound.specs.Request.{isInRange, isInsideSlave, isOutsideMaste
 -- a level's request that meets none of 3, 4 and 5
 pub record Fits (setup : Setup) (l : ℕ) (q : Request) : Type 0 where
   pub some : 1 ≤ q .left
-  pub most : q .left ≤ 4096
+  pub most : q .left ≤ requestMost
   pub direction : q .direction ≤ 1
   pub space : q .space ≤ 1
   pub found : slaveFor (setup .slaves) q ≡ Slave (slaveOf (setup .slaves) q) (startOf (setup .slaves) q)
@@ -45,7 +46,7 @@ module _ (setup : Setup) (l : ℕ) (q : Request) where
       let master = by-test (isOutsideMaster setup q) (λ t. absurd (not-refused (rw t at e2))) (λ f. f) in
       record {
         some = leb-true 1 (q .left) (need (leb 1 (q .left)) (isInRange q) (λ f. simp f) range);
-        most = leb-true (q .left) 4096 (need (leb (q .left) 4096) (isInRange q) (λ f. simp (f, and-false)) range);
+        most = leb-true (q .left) requestMost (need (leb (q .left) requestMost) (isInRange q) (λ f. simp (f, and-false)) range);
         direction = leb-true (q .direction) 1 (need (leb (q .direction) 1) (isInRange q) (λ f. simp (f, and-false)) range);
         space = leb-true (q .space) 1 (need (leb (q .space) 1) (isInRange q) (λ f. simp (f, and-false)) range);
         found = slave-row-of (slaveFor (setup .slaves) q) inside;
@@ -57,7 +58,7 @@ module _ (setup : Setup) (l : ℕ) (q : Request) where
   fits-by f =
       rw (
         le-leb 1 (q .left) (f .some),
-        le-leb (q .left) 4096 (f .most),
+        le-leb (q .left) requestMost (f .most),
         le-leb (q .direction) 1 (f .direction),
         le-leb (q .space) 1 (f .space),
         f .found,

@@ -7,6 +7,7 @@ use native.Mathlib.Omega.{arith}
 use borrow.Author.Tests.{le-leb, eq-eqb}
 use lib.ListN.{getD, replicate, getD-replicate}
 use lib.Dec.{eqb}
+use Rattle.basics.specs.Limits.{places}
 use Rattle.basics.proofs.Tests.{by-test}
 use Rattle.frame.specs.declared.Setup.{Setup}
 use Rattle.frame.specs.Frame.{isFramed}
@@ -35,11 +36,11 @@ module _ (setup : Setup) (ch : Channel) where
               small = g .small;
               present = g .present;
               asking = g .asking;
-              active = rw (f, getD-replicate 16 o false false (omega (arith, g .small)));
+              active = rw (f, getD-replicate places o false false (omega (arith, g .small)));
             };
         request = s .request;
         blank = s .blank;
-        fair = λ l k e. absurd (false≢true (sym (rw (f, getD-replicate 16 l false false k)) ∙ e));
+        fair = λ l k e. absurd (false≢true (sym (rw (f, getD-replicate places l false false k)) ∙ e));
         clock = s .clock;
         unasked = s .unasked;
         asked = λ o t e a. absurd (false≢true (sym f ∙ s .asked o t e a .line));
@@ -49,12 +50,12 @@ module _ (setup : Setup) (ch : Channel) where
   clear-settled s = by-test (line ch) (λ t. rw (cleared-on ch t) s) (off-settled s)
 
   -- no mark is left while the line is not active
-  clear-marked : (l : ℕ) → l < 16 → isInactive (cleared ch .inactive) l ≡ true → line (cleared ch) ≡ true
+  clear-marked : (l : ℕ) → l < places → isInactive (cleared ch .inactive) l ≡ true → line (cleared ch) ≡ true
   unfolding cleared
   clear-marked l k e =
       by-test (line ch)
       (λ t. rw t t)
-      (λ f. absurd (false≢true (sym (rw (f, getD-replicate 16 l false false k)) ∙ e)))
+      (λ f. absurd (false≢true (sym (rw (f, getD-replicate places l false false k)) ∙ e)))
 
 -- what the line rule says of the asked time, taken apart
 now-at : (p : Phase) (a : Asked) (active : Bool) (clock o t : ℕ) → p ≡ Granted o → askedNow p a active clock ≡ At t
@@ -88,7 +89,7 @@ module _ (setup : Setup) (framed : isFramed setup ≡ true) (ch : Channel) where
       let b = transfer-fits setup framed o (requestOf ch o) (r .0) (fits-is setup o (requestOf ch o) (r .1)) in
       rw n (le-leb (transferOf setup o (requestOf ch o) + ch .clock) (t + allowance setup) (omega arith)))
 
-  timed-sound : Settled setup ch → ((l : ℕ) → l < 16 → isInactive (ch .inactive) l ≡ true → line ch ≡ true) → Sound setup (timed ch)
+  timed-sound : Settled setup ch → ((l : ℕ) → l < places → isInactive (ch .inactive) l ≡ true → line ch ≡ true) → Sound setup (timed ch)
   unfolding timed
   timed-sound s m =
       record {
@@ -123,7 +124,7 @@ same-asked setup ch s (Granted o) (At t) e f = refl
 same-asked setup ch s (Granted o) Never e f = rw (s .quiet o e f)
 
 -- nothing is removed where no mark is left
-unmarked : (ch : Channel) → line ch ≡ false → ch .inactive ≡ replicate 16 false → cleared ch ≡ ch
+unmarked : (ch : Channel) → line ch ≡ false → ch .inactive ≡ replicate places false → cleared ch ≡ ch
 unfolding cleared
 unmarked ch f e = rw f (ap (changed ch (ch .phase) (ch .asked) (ch .clock)) (sym e))
 

@@ -11,6 +11,7 @@ use lib.ListN.{getD}
 use Rattle.refusal.specs.Refusal.{isAccepted}
 use Rattle.refusal.specs.declared.Verdict.{Verdict}
 use Rattle.refusal.specs.declared.Verdict.the-variants.{Accepted, Refused}
+use Rattle.basics.specs.Limits.{places, systemMaster, clockLimit}
 use Rattle.basics.proofs.ScanLaws.{all-at, all-intro}
 use Rattle.basics.proofs.Tests.{by-test, need, and-left, and-right, or-cases, or-left, or-right}
 use Rattle.frame.specs.declared.LevelRows.{LevelRows}
@@ -25,7 +26,6 @@ use Rattle.channel.specs.Channel.{hasRequest, requestOf}
 use Rattle.channel.specs.Line.{isInactive, line}
 use Rattle.sound.specs.Request.{requestVerdict}
 use Rattle.sound.specs.Sound.{
-  clockLimit,
   isGrantSound,
   ownerSound,
   isOwnerSound,
@@ -43,9 +43,9 @@ use Rattle.sound.specs.Sound.{
 
 -- a level that the channel may be granted to
 pub record Grant (levels : LevelRows) (ch : Channel) (owner : ℕ) : Type 0 where
-  pub small : owner ≤ 15
+  pub small : owner ≤ systemMaster
   pub present : isPresent levels owner ≡ true
-  pub asking : (owner ≡ 15) ⊎ (hasRequest (ch .left) owner ≡ true)
+  pub asking : (owner ≡ systemMaster) ⊎ (hasRequest (ch .left) owner ≡ true)
   pub active : isInactive (ch .inactive) owner ≡ false
 
 -- an asked time that the owner keeps to
@@ -56,10 +56,10 @@ pub record InTime (setup : Setup) (ch : Channel) (owner t : ℕ) : Type 0 where
 
 pub record Settled (setup : Setup) (ch : Channel) : Type 0 where
   pub owner : (o : ℕ) → ch .phase ≡ Granted o → Grant (setup .levels) ch o
-  pub request : (l : ℕ) → l < 16 → hasRequest (ch .left) l ≡ true
+  pub request : (l : ℕ) → l < places → hasRequest (ch .left) l ≡ true
       → (isPresent (setup .levels) l ≡ true) × (requestVerdict setup l (requestOf ch l) ≡ Accepted)
-  pub blank : (l : ℕ) → l < 16 → hasRequest (ch .left) l ≡ false → isBlank (requestOf ch l) ≡ true
-  pub fair : (l : ℕ) → l < 16 → isInactive (ch .inactive) l ≡ true
+  pub blank : (l : ℕ) → l < places → hasRequest (ch .left) l ≡ false → isBlank (requestOf ch l) ≡ true
+  pub fair : (l : ℕ) → l < places → isInactive (ch .inactive) l ≡ true
       → (isPresent (setup .levels) l ≡ true) × (isFair (levelOf (setup .levels) l .options) ≡ true)
   pub clock : ch .clock ≤ clockLimit
   pub unasked : ch .phase ≡ Arbitrating → ch .asked ≡ Never
@@ -67,7 +67,7 @@ pub record Settled (setup : Setup) (ch : Channel) : Type 0 where
 
 pub record Sound (setup : Setup) (ch : Channel) : Type 0 where
   pub settled : Settled setup ch
-  pub marked : (l : ℕ) → l < 16 → isInactive (ch .inactive) l ≡ true → line ch ≡ true
+  pub marked : (l : ℕ) → l < places → isInactive (ch .inactive) l ≡ true → line ch ≡ true
   pub quiet : (o : ℕ) → ch .phase ≡ Granted o → ch .asked ≡ Never → line ch ≡ false
 
 pub accepted-is : (v : Verdict) → isAccepted v ≡ true → v ≡ Accepted
@@ -80,21 +80,21 @@ module _ (setup : Setup) (ch : Channel) where
   unfolding isGrantSound
   grant-is o e =
       let whole = isGrantSound (setup .levels) ch o in
-      let asks = need (eqb o 15 || hasRequest (ch .left) o) whole (λ f. simp (f, and-false)) e in
+      let asks = need (eqb o systemMaster || hasRequest (ch .left) o) whole (λ f. simp (f, and-false)) e in
       record {
-        small = leb-true o 15 (need (leb o 15) whole (λ f. simp f) e);
+        small = leb-true o systemMaster (need (leb o systemMaster) whole (λ f. simp f) e);
         present = need (isPresent (setup .levels) o) whole (λ f. simp (f, and-false)) e;
-        asking = ⊎-elim (λ t. inl (eqb-true o 15 t)) inr (or-cases (eqb o 15) (hasRequest (ch .left) o) asks);
+        asking = ⊎-elim (λ t. inl (eqb-true o systemMaster t)) inr (or-cases (eqb o systemMaster) (hasRequest (ch .left) o) asks);
         active = not-true _ (need (not (isInactive (ch .inactive) o)) whole (λ f. simp (f, and-false)) e);
       }
 
   grant-by : (o : ℕ) → Grant (setup .levels) ch o → isGrantSound (setup .levels) ch o ≡ true
   unfolding isGrantSound
   grant-by o g =
-      let asks : (eqb o 15 || hasRequest (ch .left) o) ≡ true =
-      ⊎-elim (λ e. or-left _ _ (eq-eqb o 15 e)) (λ e. or-right (eqb o 15) _ e) (g .asking)
+      let asks : (eqb o systemMaster || hasRequest (ch .left) o) ≡ true =
+      ⊎-elim (λ e. or-left _ _ (eq-eqb o systemMaster e)) (λ e. or-right (eqb o systemMaster) _ e) (g .asking)
       in
-      rw (le-leb o 15 (g .small), g .present, g .active, asks)
+      rw (le-leb o systemMaster (g .small), g .present, g .active, asks)
 
   owner-is : isOwnerSound (setup .levels) ch ≡ true → (o : ℕ) → ch .phase ≡ Granted o → Grant (setup .levels) ch o
   unfolding isOwnerSound
@@ -116,7 +116,7 @@ module _ (setup : Setup) (ch : Channel) where
   unfolding isRequestSound
   blank-is l h e = rw (not-false (eqb (getD (ch .left) l 0) 0) e) at h
 
-  request-by : Settled setup ch → (l : ℕ) → l < 16 → isRequestSound setup ch l ≡ true
+  request-by : Settled setup ch → (l : ℕ) → l < places → isRequestSound setup ch l ≡ true
   unfolding isRequestSound
   request-by s l k =
       by-test (hasRequest (ch .left) l)
@@ -132,13 +132,13 @@ module _ (setup : Setup) (ch : Channel) where
       let s = and-right (isPresent (setup .levels) l) _ r in
       (and-left _ _ r, and-left _ _ s, and-right (isFair (levelOf (setup .levels) l .options)) _ s)
 
-  mark-at : areMarksSound (setup .levels) (ch .inactive) (line ch) ≡ true → (l : ℕ) → l < 16 → isInactive (ch .inactive) l ≡ true
+  mark-at : areMarksSound (setup .levels) (ch .inactive) (line ch) ≡ true → (l : ℕ) → l < places → isInactive (ch .inactive) l ≡ true
       → (isPresent (setup .levels) l ≡ true) × (isFair (levelOf (setup .levels) l .options) ≡ true) × (line ch ≡ true)
   unfolding areMarksSound
   mark-at h l k e =
-      mark-is (line ch) l (all-at (λ (m : ℕ). isMarkSound (setup .levels) (isInactive (ch .inactive) m) (line ch) m) 16 h l k) e
+      mark-is (line ch) l (all-at (λ (m : ℕ). isMarkSound (setup .levels) (isInactive (ch .inactive) m) (line ch) m) places h l k) e
 
-  mark-by : Sound setup ch → (l : ℕ) → l < 16 → isMarkSound (setup .levels) (isInactive (ch .inactive) l) (line ch) l ≡ true
+  mark-by : Sound setup ch → (l : ℕ) → l < places → isMarkSound (setup .levels) (isInactive (ch .inactive) l) (line ch) l ≡ true
   unfolding isMarkSound
   mark-by s l k =
       by-test (isInactive (ch .inactive) l)
@@ -182,8 +182,8 @@ module _ (setup : Setup) (ch : Channel) where
         settled =
             record {
               owner = owner-is owner;
-              request = λ l k. request-is l (all-at (isRequestSound setup ch) 16 requests l k);
-              blank = λ l k. blank-is l (all-at (isRequestSound setup ch) 16 requests l k);
+              request = λ l k. request-is l (all-at (isRequestSound setup ch) places requests l k);
+              blank = λ l k. blank-is l (all-at (isRequestSound setup ch) places requests l k);
               fair = λ l k e. let m = mark-at marks l k e in (m .0, m .1);
               clock = leb-true (ch .clock) clockLimit clock;
               unasked = λ e. never-is (ch .asked) (asked-is Arbitrating (ch .asked) asked e refl);
@@ -198,8 +198,8 @@ module _ (setup : Setup) (ch : Channel) where
   sound-by s =
       rw (
         owner-by (s .settled .owner) (ch .phase) refl,
-        all-intro (isRequestSound setup ch) 16 (request-by (s .settled)),
-        all-intro (λ (l : ℕ). isMarkSound (setup .levels) (isInactive (ch .inactive) l) (line ch) l) 16 (mark-by s),
+        all-intro (isRequestSound setup ch) places (request-by (s .settled)),
+        all-intro (λ (l : ℕ). isMarkSound (setup .levels) (isInactive (ch .inactive) l) (line ch) l) places (mark-by s),
         le-leb (ch .clock) clockLimit (s .settled .clock),
       )
       (asked-by s (ch .phase) (ch .asked) refl refl)

@@ -9,6 +9,7 @@ use borrow.Author.Tests.{lt-ltb, eqb-true, eqb-false, leb-true, not-true, not-fa
 use lib.Dec.{eqb, leb, ltb}
 use lib.ListN.{length, getD, set}
 use lib.Seq.{getD-set-same, getD-set-other}
+use Rattle.basics.specs.Limits.{places, rowsMost, noRow, systemMaster}
 use Rattle.basics.specs.Scan.{allBelow, firstFrom}
 use Rattle.basics.proofs.ScanLaws.{all-ext, all-both, first-hit, first-miss, first-none}
 use Rattle.basics.proofs.Tests.{by-test, and-left}
@@ -69,41 +70,41 @@ use Rattle.sound.specs.Tables.{
 -- the row of a level among those from row i on
 unfoldable pub foundFrom : LevelRows → ℕ → ℕ → FoundLevel
 foundFrom levels l i =
-    levelFound levels (firstFrom (λ (k : ℕ). eqb (levelAt levels k .level) l) i (present (levels .count) - i) 16)
+    levelFound levels (firstFrom (λ (k : ℕ). eqb (levelAt levels k .level) l) i (present (levels .count) - i) noRow)
 
 -- an array that tells what is asked of those rows
 abbrev pub TellsFrom : LevelRows → (FoundLevel → Bool) → ℕ → List Bool → Type 0
-TellsFrom levels asked i table = (l : ℕ) → l < 16 → getD table l false ≡ asked (foundFrom levels l i)
+TellsFrom levels asked i table = (l : ℕ) → l < places → getD table l false ≡ asked (foundFrom levels l i)
 
 module _ (levels : LevelRows) (asked : FoundLevel → Bool) (table : List Bool) where
   -- of no row it tells what is asked of a missing one
-  pub tells-none : (i : ℕ) → present (levels .count) ≤ i → ((l : ℕ) → l < 16 → getD table l false ≡ asked Missing)
+  pub tells-none : (i : ℕ) → present (levels .count) ≤ i → ((l : ℕ) → l < places → getD table l false ≡ asked Missing)
       → TellsFrom levels asked i table
   unfolding foundFrom
-  tells-none i h e l k = rw (first-none _ i (present (levels .count)) 16 h) (e l k)
+  tells-none i h e l k = rw (first-none _ i (present (levels .count)) noRow h) (e l k)
 
   -- one row more, of a level that has a place in it
-  pub tells-more : (i : ℕ) → i < present (levels .count) → length table ≡ 16 → levelAt levels i .level < 16
+  pub tells-more : (i : ℕ) → i < present (levels .count) → length table ≡ places → levelAt levels i .level < places
       → TellsFrom levels asked (i + 1) table
       → TellsFrom levels asked i (set table (levelAt levels i .level) (asked (Row (levelAt levels i))))
   unfolding foundFrom
   tells-more i h n s e l k =
       by-test (eqb (levelAt levels i .level) l)
       (λ t.
-      rw (first-hit _ i (present (levels .count)) 16 h t, lt-ltb i 16 (omega arith), ← eqb-true (levelAt levels i .level) l t)
+      rw (first-hit _ i (present (levels .count)) noRow h t, lt-ltb i noRow (omega arith), ← eqb-true (levelAt levels i .level) l t)
       (getD-set-same table (levelAt levels i .level) _ false (omega arith)))
       (λ f.
-      rw (first-miss _ i (present (levels .count)) 16 h f)
+      rw (first-miss _ i (present (levels .count)) noRow h f)
       (getD-set-other table (levelAt levels i .level) l _ false (λ q. eqb-false _ _ f (sym q)) ∙ e l k))
 
   -- one row more, of a level that has none
-  pub tells-same : (i : ℕ) → i < present (levels .count) → 16 ≤ levelAt levels i .level → TellsFrom levels asked (i + 1) table
+  pub tells-same : (i : ℕ) → i < present (levels .count) → places ≤ levelAt levels i .level → TellsFrom levels asked (i + 1) table
       → TellsFrom levels asked i table
   unfolding foundFrom
   tells-same i h s e l k =
       by-test (eqb (levelAt levels i .level) l)
       (λ t. let q = eqb-true (levelAt levels i .level) l t in absurd (omega arith))
-      (λ f. rw (first-miss _ i (present (levels .count)) 16 h f) (e l k))
+      (λ f. rw (first-miss _ i (present (levels .count)) noRow h f) (e l k))
 
   -- of all rows
   pub tells-all : TellsFrom levels asked 0 table → Tells levels asked table
@@ -111,7 +112,7 @@ module _ (levels : LevelRows) (asked : FoundLevel → Bool) (table : List Bool) 
   tells-all e l k = rw (← sub-zero (present (levels .count))) (e l k)
 
 -- a row that keeps the frame has a level with a place in the arrays
-pub fits-small : (levels : LevelRows) (i : ℕ) → levelRowFits levels i ≡ true → levelAt levels i .level < 16
+pub fits-small : (levels : LevelRows) (i : ℕ) → levelRowFits levels i ≡ true → levelAt levels i .level < places
 unfolding levelRowFits
 fits-small levels i e = let f = level-facts (levelAt levels i) (and-left _ _ e) .level in omega arith
 
@@ -144,11 +145,11 @@ module _ (setup : Setup) (present : Bool) (l : ℕ) (q : Request) (some : eqb (q
 -- the search for the slave row of a request has come to row i of n
 abbrev pub SearchedTo : SlaveRows → Request → ℕ → ℕ → Type 0
 SearchedTo slaves q i n =
-    firstFrom (λ (k : ℕ). holds (slaveAt slaves k) (q .space) (q .address) (q .left)) i (n - i) 16
+    firstFrom (λ (k : ℕ). holds (slaveAt slaves k) (q .space) (q .address) (q .left)) i (n - i) noRow
     ≡ slaveIndex slaves (q .space) (q .address) (q .left)
 
 pub searched-none : (slaves : SlaveRows) (s a w n : ℕ) → n ≡ present (slaves .count)
-    → firstFrom (λ (k : ℕ). holds (slaveAt slaves k) s a w) 0 (n - 0) 16 ≡ slaveIndex slaves s a w
+    → firstFrom (λ (k : ℕ). holds (slaveAt slaves k) s a w) 0 (n - 0) noRow ≡ slaveIndex slaves s a w
 unfolding slaveIndex
 searched-none slaves s a w n e = rw (sub-zero n, e)
 
@@ -168,7 +169,8 @@ module _ (setup : Setup) (table : List Bool) (rest : ℕ → Request) (l : ℕ) 
     turn-none e h =
         sym of-level ∙ open-unheld setup (getD table l false) l q e (slave-none (setup .slaves) (q .space) (q .address) (q .left) i n searched-by h)
 
-    pub turn-held : eqb (q .left) 0 ≡ false → i < n → n ≤ 16 → holds (slaveAt (setup .slaves) i) (q .space) (q .address) (q .left) ≡ true
+    pub turn-held : eqb (q .left) 0 ≡ false → i < n → n ≤ rowsMost
+        → holds (slaveAt (setup .slaves) i) (q .space) (q .address) (q .left) ≡ true
         → openSound setup (getD table l false) l (rest l) ≡ restFits (getD table l false) (setup .master) q
     turn-held e h k t =
         sym of-level
@@ -177,16 +179,18 @@ module _ (setup : Setup) (table : List Bool) (rest : ℕ → Request) (l : ℕ) 
     pub turn-on : i < n → holds (slaveAt (setup .slaves) i) (q .space) (q .address) (q .left) ≡ false
         → SearchedTo (setup .slaves) (rest l) (i + 1) n
     turn-on h f =
-        sym (first-miss _ i n 16 h (subst (λ (x : Request). holds (slaveAt (setup .slaves) i) (x .space) (x .address) (x .left) ≡ false) told f))
+        sym (first-miss _ i n noRow h
+        (subst (λ (x : Request). holds (slaveAt (setup .slaves) i) (x .space) (x .address) (x .left) ≡ false) told f))
         ∙ searched
 
 -- a sound owner has a place
-place-by : (present : List Bool) (left : List ℕ) (inactive : List Bool) (p : Phase) → ownerFits present left inactive p ≡ true → placeIn p < 16
+place-by : (present : List Bool) (left : List ℕ) (inactive : List Bool) (p : Phase) → ownerFits present left inactive p ≡ true
+    → placeIn p < places
 place-by present left inactive Arbitrating e = omega arith
-place-by present left inactive (Granted o) e = let h = leb-true o 15 (and-left _ _ e) in omega arith
+place-by present left inactive (Granted o) e = let h = leb-true o systemMaster (and-left _ _ e) in omega arith
 
 pub owner-place : (present : List Bool) (left : List ℕ) (inactive : List Bool) (phase : Phase) (owner : Bool) (place : ℕ)
-    → owner ≡ ownerFits present left inactive phase → not owner ≡ false → place ≡ placeIn phase → place < 16
+    → owner ≡ ownerFits present left inactive phase → not owner ≡ false → place ≡ placeIn phase → place < places
 owner-place present left inactive phase owner place o e p = rw p (place-by present left inactive phase (sym o ∙ not-false owner e))
 
 module _ (setup : Setup) (ch : Channel) (members : Members) (tells : AreMembers (setup .levels) members) where
@@ -194,8 +198,8 @@ module _ (setup : Setup) (ch : Channel) (members : Members) (tells : AreMembers 
   grant-fits : (o : ℕ) → grantFits (members .present) (ch .left) (ch .inactive) o ≡ isGrantSound (setup .levels) ch o
   unfolding isGrantSound isPresent
   grant-fits o =
-      by-test (leb o 15)
-      (λ t. let h = leb-true o 15 t in rw (t, tells .present o (omega arith)))
+      by-test (leb o systemMaster)
+      (λ t. let h = leb-true o systemMaster t in rw (t, tells .present o (omega arith)))
       (λ f. rw f)
 
   owner-by : (p : Phase) → ownerFits (members .present) (ch .left) (ch .inactive) p ≡ ownerSound (setup .levels) ch p
@@ -207,7 +211,7 @@ module _ (setup : Setup) (ch : Channel) (members : Members) (tells : AreMembers 
   owner-fits = owner-by (ch .phase)
 
   -- the requests
-  request-fits : (l : ℕ) → l < 16
+  request-fits : (l : ℕ) → l < places
       → (isBlankOr (requestOf ch l) && openSound setup (getD (members .present) l false) l (requestOf ch l)) ≡ isRequestSound setup ch l
   unfolding isRequestSound isPresent
   request-fits l k =
@@ -217,7 +221,7 @@ module _ (setup : Setup) (ch : Channel) (members : Members) (tells : AreMembers 
 
   pub requests-fit : requestsFit setup (members .present) (requestOf ch) ≡ areRequestsSound setup ch
   unfolding areBlank areOpenSound areRequestsSound
-  requests-fit = all-both _ _ 16 ∙ all-ext _ _ 16 request-fits
+  requests-fit = all-both _ _ places ∙ all-ext _ _ places request-fits
 
   -- the marks
   fair-row : (active : Bool) (f : FoundLevel) → (isFairRow f && active) ≡ (isLevel f && (isFair (levelOr f .options) && active))
@@ -227,7 +231,7 @@ module _ (setup : Setup) (ch : Channel) (members : Members) (tells : AreMembers 
   pub marks-fit : (active : Bool) → areMarked (members .fair) (ch .inactive) active ≡ areMarksSound (setup .levels) (ch .inactive) active
   unfolding areMarked areMarksSound isMarkSound isPresent levelOf
   marks-fit active =
-      all-ext _ _ 16 (λ l k. rw (tells .fair l k, fair-row active (levelRow (setup .levels) l)))
+      all-ext _ _ places (λ l k. rw (tells .fair l k, fair-row active (levelRow (setup .levels) l)))
 
   -- the asked time
   asked-by : (active : Bool) (p : Phase) (a : Asked) → askedFits setup (requestOf ch (placeIn p)) (ch .clock) active p a ≡ askedSound setup ch active p a

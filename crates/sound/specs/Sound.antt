@@ -4,6 +4,7 @@ use mathlib.Core.Bool.{Bool, true, false, cond, not, _&&_, _||_}
 use mathlib.Core.List.{List}
 use lib.Dec.{eqb, leb}
 use Rattle.refusal.specs.Refusal.{isAccepted}
+use Rattle.basics.specs.Limits.{places, systemMaster}
 use Rattle.basics.specs.Scan.{allBelow}
 use Rattle.frame.specs.declared.LevelRows.{LevelRows}
 use Rattle.frame.specs.declared.Setup.{Setup}
@@ -21,16 +22,14 @@ use Rattle.channel.specs.declared.Request.{Request}
 use Rattle.channel.specs.Channel.{hasRequest, requestOf}
 use Rattle.channel.specs.Line.{isInactive, line}
 use Rattle.sound.specs.Request.{requestVerdict, transferOf}
-
--- "a clock in ns, up to 4,000,000,000"
-abbrev pub clockLimit : ℕ
-clockLimit = 4000000000
+-- the limit of the clock, for whoever has it from here
+pub use Rattle.basics.specs.Limits.{clockLimit}
 
 -- "granted to an absent level, or to one other than 15 without a request, or to an inactive one"
 unfoldable pub isGrantSound : LevelRows → Channel → ℕ → Bool
 isGrantSound levels ch owner =
-    leb owner 15
-    && (isPresent levels owner && ((eqb owner 15 || hasRequest (ch .left) owner) && not (isInactive (ch .inactive) owner)))
+    leb owner systemMaster
+    && (isPresent levels owner && ((eqb owner systemMaster || hasRequest (ch .left) owner) && not (isInactive (ch .inactive) owner)))
 
 abbrev pub ownerSound : LevelRows → Channel → Phase → Bool
 ownerSound levels ch Arbitrating = true
@@ -52,14 +51,14 @@ unfoldable pub isRequestSound : Setup → Channel → ℕ → Bool
 isRequestSound setup ch l = requestSound setup l (requestOf ch l)
 
 unfoldable pub areRequestsSound : Setup → Channel → Bool
-areRequestsSound setup ch = allBelow (isRequestSound setup ch) 16
+areRequestsSound setup ch = allBelow (isRequestSound setup ch) places
 
 -- "an inactive mark at an absent or unfair level, or while the line isn't active"
 unfoldable pub isMarkSound : LevelRows → Bool → Bool → ℕ → Bool
 isMarkSound levels marked active l = not marked || (isPresent levels l && (isFair (levelOf levels l .options) && active))
 
 unfoldable pub areMarksSound : LevelRows → List Bool → Bool → Bool
-areMarksSound levels inactive active = allBelow (λ (l : ℕ). isMarkSound levels (isInactive inactive l) active l) 16
+areMarksSound levels inactive active = allBelow (λ (l : ℕ). isMarkSound levels (isInactive inactive l) active l) places
 
 -- "a clock above the limit"
 abbrev pub isClockSound : Channel → Bool

@@ -7,6 +7,7 @@ use mathlib.Core.List.{List}
 use lib.ListN.{getD}
 use lib.Dec.{eqb, leb, ltb}
 use Rattle.refusal.specs.Refusal.{isAccepted}
+use Rattle.basics.specs.Limits.{places, systemMaster}
 use Rattle.basics.specs.Scan.{allBelow}
 use Rattle.frame.specs.declared.LevelRows.{LevelRows}
 use Rattle.frame.specs.declared.Setup.{Setup}
@@ -35,7 +36,7 @@ isFairRow (Row row) = isFair (row .options)
 
 -- an array by level number holds what is asked of each level's row
 abbrev pub Tells : LevelRows → (FoundLevel → Bool) → List Bool → Type 0
-Tells levels asked table = (l : ℕ) → l < 16 → getD table l false ≡ asked (levelRow levels l)
+Tells levels asked table = (l : ℕ) → l < places → getD table l false ≡ asked (levelRow levels l)
 
 pub record AreMembers (levels : LevelRows) (members : Members) : Type 0 where
   pub present : Tells levels isLevel (members .present)
@@ -67,8 +68,8 @@ pub record AreSeats (levels : LevelRows) (seats : Seats) : Type 0 where
 -- the owner
 abbrev pub grantFits : List Bool → List ℕ → List Bool → ℕ → Bool
 grantFits present left inactive owner =
-    leb owner 15
-    && (getD present owner false && ((eqb owner 15 || hasRequest left owner) && not (isInactive inactive owner)))
+    leb owner systemMaster
+    && (getD present owner false && ((eqb owner systemMaster || hasRequest left owner) && not (isInactive inactive owner)))
 
 abbrev pub ownerFits : List Bool → List ℕ → List Bool → Phase → Bool
 ownerFits present left inactive Arbitrating = true
@@ -90,7 +91,7 @@ abbrev pub isBlankOr : Request → Bool
 isBlankOr q = not (eqb (q .left) 0) || isBlank q
 
 unfoldable pub areBlank : (ℕ → Request) → Bool
-areBlank rest = allBelow (λ (l : ℕ). isBlankOr (rest l)) 16
+areBlank rest = allBelow (λ (l : ℕ). isBlankOr (rest l)) places
 
 -- an open request whose range a slave row holds
 abbrev pub restFits : Bool → ℕ → Request → Bool
@@ -101,7 +102,7 @@ abbrev pub openSound : Setup → Bool → ℕ → Request → Bool
 openSound setup present l q = eqb (q .left) 0 || (present && isAccepted (requestVerdict setup l q))
 
 unfoldable pub areOpenSound : Setup → List Bool → (ℕ → Request) → Bool
-areOpenSound setup present rest = allBelow (λ (l : ℕ). openSound setup (getD present l false) l (rest l)) 16
+areOpenSound setup present rest = allBelow (λ (l : ℕ). openSound setup (getD present l false) l (rest l)) places
 
 -- the requests
 abbrev pub requestsFit : Setup → List Bool → (ℕ → Request) → Bool
@@ -109,7 +110,7 @@ requestsFit setup present rest = areBlank rest && areOpenSound setup present res
 
 -- the marks
 unfoldable pub areMarked : List Bool → List Bool → Bool → Bool
-areMarked fair inactive active = allBelow (λ (l : ℕ). not (isInactive inactive l) || (getD fair l false && active)) 16
+areMarked fair inactive active = allBelow (λ (l : ℕ). not (isInactive inactive l) || (getD fair l false && active)) places
 
 -- the asked time, by what is left of the owner's request
 abbrev pub askedFits : Setup → Request → ℕ → Bool → Phase → Asked → Bool

@@ -1,5 +1,10 @@
 // The test for an unsound channel (document 01, "Refusal numbers"), and what a request, posted or open, may meet: refusals
 // 3, 4 and 5.
+use basics::CLOCK_LIMIT;
+use basics::PLACES;
+use basics::PLACES_U32;
+use basics::ROWS_MOST;
+use basics::SYSTEM_MASTER;
 use channel::Asked;
 use channel::Channel;
 use channel::Phase;
@@ -13,8 +18,9 @@ use refusal::Verdict;
 ghost use mathlib.Core.Path.{_≡_};
 ghost use Prim.Native.Nat.{_<_, _+_};
 ghost use lib.Dec.{leb, ltb};
+ghost use Rattle.basics.specs.Limits.{places, clockLimit};
 ghost use Rattle.sound.specs.Request.{isInRange, requestVerdict, transferOf};
-ghost use Rattle.sound.specs.Sound.{clockLimit, isBlank, isInTime, isSound, soundStore};
+ghost use Rattle.sound.specs.Sound.{isBlank, isInTime, isSound, soundStore};
 ghost use Rattle.sound.specs.Tables.{membersAt, AreMembers, AreSeats, channelAt, grantFits, ownerFits, requestAt, areBlank, restFits, areOpenSound, requestsFit, areMarked, askedFits};
 
 // Length, direction and space of a request are in range.
@@ -79,21 +85,25 @@ fn is_blank(request: Request) -> bool
 // Which levels the set-up has, and which of them are fair, by level number. A search of the rows for each level would
 // copy them each time.
 struct Members {
-    present: [bool; 16],
-    fair: [bool; 16],
+    present: [bool; PLACES],
+    fair: [bool; PLACES],
 }
 
 // The rows are gone through from the last to the first: a level's first row counts.
 fn members_of(levels: LevelRows) -> Members
     ensures { λ r. ⌜ AreMembers levels r ⌝ }
 {
-    let mut present = [false; 16];
-    let mut fair = [false; 16];
-    let mut i: usize = if levels.count < 16 { levels.count } else { 16 };
+    let mut present = [false; PLACES];
+    let mut fair = [false; PLACES];
+    let mut i: usize = if levels.count < ROWS_MOST {
+        levels.count
+    } else {
+        ROWS_MOST
+    };
     while 0 < i {
         i -= 1;
         let row = levels.rows[i];
-        if row.level < 16 {
+        if row.level < PLACES_U32 {
             let at = row.level as usize;
             present[at] = true;
             fair[at] = frame::is_fair(row.options);
@@ -108,15 +118,15 @@ fn members_of(levels: LevelRows) -> Members
 // The same of rows that keep the frame, and whether they do: one pass for both.
 struct Seats {
     fits: bool,
-    present: [bool; 16],
-    fair: [bool; 16],
+    present: [bool; PLACES],
+    fair: [bool; PLACES],
 }
 
 fn seats_of(levels: LevelRows) -> Seats
     ensures { λ r. ⌜ AreSeats levels r ⌝ }
 {
-    let mut present = [false; 16];
-    let mut fair = [false; 16];
+    let mut present = [false; PLACES];
+    let mut fair = [false; PLACES];
     let count = levels.count;
     if !frame::is_row_count(count) {
         return Seats {
@@ -151,25 +161,25 @@ fn seats_of(levels: LevelRows) -> Seats
 
 // An owner is present, has a request unless it is 15, and isn't inactive.
 fn is_grant_sound<'a>(
-    present: &'a [bool; 16],
-    left: &'a [u32; 16],
-    inactive: &'a [bool; 16],
+    present: &'a [bool; PLACES],
+    left: &'a [u32; PLACES],
+    inactive: &'a [bool; PLACES],
     owner: u8,
 ) -> bool
     ensures { λ r. ⌜ r ≡ grantFits (now (present .entry)) (now (left .entry)) (now (inactive .entry)) owner ⌝ }
 {
-    if 15 < owner {
+    if SYSTEM_MASTER < owner {
         return false;
     }
     let at = owner as usize;
-    let asking = (owner == 15) | (left[at] != 0);
+    let asking = (owner == SYSTEM_MASTER) | (left[at] != 0);
     present[at] & (asking & !inactive[at])
 }
 
 fn is_owner_sound<'a>(
-    present: &'a [bool; 16],
-    left: &'a [u32; 16],
-    inactive: &'a [bool; 16],
+    present: &'a [bool; PLACES],
+    left: &'a [u32; PLACES],
+    inactive: &'a [bool; PLACES],
     phase: Phase,
 ) -> bool
     ensures { λ r. ⌜ r ≡ ownerFits (now (present .entry)) (now (left .entry)) (now (inactive .entry)) phase ⌝ }
@@ -182,14 +192,14 @@ fn is_owner_sound<'a>(
 
 // What is left of a level's request.
 fn request_at<'a>(
-    direction: &'a [u32; 16],
-    space: &'a [u32; 16],
-    address: &'a [u32; 16],
-    left: &'a [u32; 16],
-    offset: &'a [u32; 16],
+    direction: &'a [u32; PLACES],
+    space: &'a [u32; PLACES],
+    address: &'a [u32; PLACES],
+    left: &'a [u32; PLACES],
+    offset: &'a [u32; PLACES],
     level: usize,
 ) -> Request
-    requires { ⌜ level < 16 ⌝ }
+    requires { ⌜ level < places ⌝ }
     ensures { λ r. ⌜ r ≡ requestAt (now (direction .entry)) (now (space .entry)) (now (address .entry))
         (now (left .entry)) (now (offset .entry)) level ⌝ }
 {
@@ -204,18 +214,18 @@ fn request_at<'a>(
 
 // Every place without a request holds zeros. There is no early return, so that several levels are tested at a time.
 fn are_blank<'a>(
-    direction: &'a [u32; 16],
-    space: &'a [u32; 16],
-    address: &'a [u32; 16],
-    left: &'a [u32; 16],
-    offset: &'a [u32; 16],
+    direction: &'a [u32; PLACES],
+    space: &'a [u32; PLACES],
+    address: &'a [u32; PLACES],
+    left: &'a [u32; PLACES],
+    offset: &'a [u32; PLACES],
 ) -> bool
     ensures { λ r. ⌜ r ≡ areBlank (requestAt (now (direction .entry)) (now (space .entry)) (now (address .entry))
         (now (left .entry)) (now (offset .entry))) ⌝ }
 {
     let mut all = true;
     let mut level: usize = 0;
-    while level < 16 {
+    while level < PLACES {
         let request = request_at(direction, space, address, left, offset, level);
         all = all & ((request.left != 0) | is_blank(request));
         level += 1;
@@ -234,21 +244,25 @@ fn is_rest_sound(present: bool, master: u32, request: Request) -> bool
 // levels, and for an open request through the slave rows: passing the rows on for each level would copy them.
 fn are_open_sound<'a>(
     setup: Setup,
-    present: &'a [bool; 16],
-    direction: &'a [u32; 16],
-    space: &'a [u32; 16],
-    address: &'a [u32; 16],
-    left: &'a [u32; 16],
-    offset: &'a [u32; 16],
+    present: &'a [bool; PLACES],
+    direction: &'a [u32; PLACES],
+    space: &'a [u32; PLACES],
+    address: &'a [u32; PLACES],
+    left: &'a [u32; PLACES],
+    offset: &'a [u32; PLACES],
 ) -> bool
     ensures { λ r. ⌜ r ≡ areOpenSound setup (now (present .entry))
         (requestAt (now (direction .entry)) (now (space .entry)) (now (address .entry)) (now (left .entry)) (now (offset .entry))) ⌝ }
 {
     let slaves = setup.slaves;
-    let count = if slaves.count < 16 { slaves.count } else { 16 };
+    let count = if slaves.count < ROWS_MOST {
+        slaves.count
+    } else {
+        ROWS_MOST
+    };
     let mut level: usize = 0;
     let mut i: usize = 0;
-    while level < 16 {
+    while level < PLACES {
         let request = request_at(direction, space, address, left, offset, level);
         if request.left == 0 {
             level += 1;
@@ -275,12 +289,12 @@ fn are_open_sound<'a>(
 // Every level's request is sound. Each test that fails ends it: in one expression the compiler would mix the two loops.
 fn are_requests_sound<'a>(
     setup: Setup,
-    present: &'a [bool; 16],
-    direction: &'a [u32; 16],
-    space: &'a [u32; 16],
-    address: &'a [u32; 16],
-    left: &'a [u32; 16],
-    offset: &'a [u32; 16],
+    present: &'a [bool; PLACES],
+    direction: &'a [u32; PLACES],
+    space: &'a [u32; PLACES],
+    address: &'a [u32; PLACES],
+    left: &'a [u32; PLACES],
+    offset: &'a [u32; PLACES],
 ) -> bool
     ensures { λ r. ⌜ r ≡ requestsFit setup (now (present .entry))
         (requestAt (now (direction .entry)) (now (space .entry)) (now (address .entry)) (now (left .entry)) (now (offset .entry))) ⌝ }
@@ -292,11 +306,11 @@ fn are_requests_sound<'a>(
 }
 
 // Every inactive mark stands at a present, fair level, and only while the line is active.
-fn are_marks_sound<'a>(fair: &'a [bool; 16], inactive: &'a [bool; 16], active: bool) -> bool
+fn are_marks_sound<'a>(fair: &'a [bool; PLACES], inactive: &'a [bool; PLACES], active: bool) -> bool
     ensures { λ r. ⌜ r ≡ areMarked (now (fair .entry)) (now (inactive .entry)) active ⌝ }
 {
     let mut level: usize = 0;
-    while level < 16 {
+    while level < PLACES {
         if !(!inactive[level] | (fair[level] & active)) {
             return false;
         }
@@ -309,7 +323,7 @@ fn are_marks_sound<'a>(fair: &'a [bool; 16], inactive: &'a [bool; 16], active: b
 fn is_clock_sound(clock: u32) -> bool
     ensures { λ r. ⌜ r ≡ leb clock clockLimit ⌝ }
 {
-    clock <= 4000000000
+    clock <= CLOCK_LIMIT
 }
 
 // Asked at `t`, the owner's running or next transfer ends within the allowance; without a request `t` is the clock.
@@ -360,17 +374,17 @@ fn is_asked_sound(
 // A test for each clause. The owner's comes first, as the asked time goes by the owner's request.
 fn are_clauses_sound<'a>(
     setup: Setup,
-    present: &'a [bool; 16],
-    fair: &'a [bool; 16],
+    present: &'a [bool; PLACES],
+    fair: &'a [bool; PLACES],
     phase: Phase,
     asked: Asked,
     clock: u32,
-    inactive: &'a [bool; 16],
-    direction: &'a [u32; 16],
-    space: &'a [u32; 16],
-    address: &'a [u32; 16],
-    left: &'a [u32; 16],
-    offset: &'a [u32; 16],
+    inactive: &'a [bool; PLACES],
+    direction: &'a [u32; PLACES],
+    space: &'a [u32; PLACES],
+    address: &'a [u32; PLACES],
+    left: &'a [u32; PLACES],
+    offset: &'a [u32; PLACES],
 ) -> bool
     requires { ⌜ AreMembers (setup .levels) (membersAt (now present) (now fair)) ⌝ }
     ensures { λ r. ⌜ r ≡ isSound setup (channelAt phase asked clock (now (inactive .entry)) (now (direction .entry)) (now (space .entry))

@@ -1,13 +1,14 @@
 use Prim.Native.Nat.{_-_, _≤_}
 use native.Mathlib.Omega.{arith}
+use Rattle.basics.specs.Limits.{places}
 use Rattle.benchrun.proofs.print_levels.Statement.{statement}
 use Rattle.benchrun.proofs.print_levels.Tie as tie
 
 abbrev Inv-loop : tie.InvT-loop
-Inv-loop channel i₀ i = i ≤ 16
+Inv-loop channel i₀ i = i ≤ places
 
 abbrev μ-loop : tie.MeasureT-loop
-μ-loop channel i₀ i = 16 - i
+μ-loop channel i₀ i = places - i
 
 loop-holds : tie.Need-loop-holds Inv-loop μ-loop
 loop-holds c = omega arith

@@ -1,5 +1,6 @@
 use Prim.Native.Nat.{_-_, _≤_}
 use Rattle.basics.proofs.ScanLaws.{any-hit, any-more}
+use Rattle.basics.specs.Limits.{places}
 use Rattle.basics.specs.Scan.{anyBelow}
 use Rattle.channel.specs.Line.{drives, lineActive}
 use borrow.Author.Needs.{needs}
@@ -10,10 +11,10 @@ use Rattle.channel.proofs.line_active.Statement.{statement}
 use Rattle.channel.proofs.line_active.Tie as tie
 
 abbrev Inv-loop : tie.InvT-loop
-Inv-loop left inactive owner level₀ level = (level ≤ 16) × (anyBelow (drives left inactive owner) level ≡ false)
+Inv-loop left inactive owner level₀ level = (level ≤ places) × (anyBelow (drives left inactive owner) level ≡ false)
 
 abbrev μ-loop : tie.MeasureT-loop
-μ-loop left inactive owner level₀ level = 16 - level
+μ-loop left inactive owner level₀ level = places - level
 
 owner-of-requires : tie.Need-owner-of-requires Inv-loop μ-loop
 owner-of-requires c κs = tt
@@ -38,7 +39,7 @@ returns : tie.Need-returns Inv-loop μ-loop
 unfolding lineActive drives
 returns c =
     let l = c .before .before .before .before .loop in
-    rw (← c .before .before .before .before .before .owner-of .ensures) (sym (any-hit _ (l .level) 16 (omega arith) (c .if1 .taken)))
+    rw (← c .before .before .before .before .before .owner-of .ensures) (sym (any-hit _ (l .level) places (omega arith) (c .if1 .taken)))
 
 add-level : tie.Need-add-level Inv-loop μ-loop
 add-level c = omega arith
@@ -55,7 +56,7 @@ loop-again c =
 returns-2 : tie.Need-returns-2 Inv-loop μ-loop
 unfolding lineActive
 returns-2 c =
-    let e : c .before .loop .level ≡ 16 = omega arith in
+    let e : c .before .loop .level ≡ places = omega arith in
     rw (← c .before .before .owner-of .ensures) (sym (rw e at (c .before .loop .inv .1)))
 
 pub line-active-spec : {M : Type 1} → statement M

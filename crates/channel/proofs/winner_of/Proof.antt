@@ -1,5 +1,6 @@
 use Prim.Native.Nat.{ℕ, _-_, _≤_}
 use Rattle.basics.proofs.ScanLaws.{first-hit, first-miss, first-none}
+use Rattle.basics.specs.Limits.{places, systemMaster}
 use Rattle.basics.specs.Scan.{firstFrom}
 use Rattle.channel.specs.Line.{waits, winner}
 use mathlib.Core.Path.{_≡_, refl, sym, ap, _∙_}
@@ -8,10 +9,11 @@ use Rattle.channel.proofs.winner_of.Statement.{statement}
 use Rattle.channel.proofs.winner_of.Tie as tie
 
 abbrev Inv-loop : tie.InvT-loop
-Inv-loop left inactive level₀ level = (level ≤ 16) × (firstFrom (waits left inactive) level (16 - level) 15 ≡ winner left inactive)
+Inv-loop left inactive level₀ level =
+    (level ≤ places) × (firstFrom (waits left inactive) level (places - level) systemMaster ≡ winner left inactive)
 
 abbrev μ-loop : tie.MeasureT-loop
-μ-loop left inactive level₀ level = 16 - level
+μ-loop left inactive level₀ level = places - level
 
 loop-holds : tie.Need-loop-holds Inv-loop μ-loop
 unfolding winner
@@ -33,7 +35,7 @@ returns : tie.Need-returns Inv-loop μ-loop
 unfolding waits
 returns c =
     let l = c .before .before .before .before .loop in
-    sym (first-hit _ (l .level) 16 15 (omega arith) (c .if1 .taken)) ∙ l .inv .1
+    sym (first-hit _ (l .level) places systemMaster (omega arith) (c .if1 .taken)) ∙ l .inv .1
 
 add-level : tie.Need-add-level Inv-loop μ-loop
 add-level c = omega arith
@@ -45,10 +47,10 @@ loop-again : tie.Need-loop-again Inv-loop μ-loop
 unfolding waits
 loop-again c =
     let l = c .before .before .before .before .loop in
-    (omega arith, sym (first-miss _ (l .level) 16 15 (omega arith) (c .if1 .left)) ∙ l .inv .1)
+    (omega arith, sym (first-miss _ (l .level) places systemMaster (omega arith) (c .if1 .left)) ∙ l .inv .1)
 
 returns-2 : tie.Need-returns-2 Inv-loop μ-loop
-returns-2 c = sym (first-none _ (c .before .loop .level) 16 15 (omega arith)) ∙ c .before .loop .inv .1
+returns-2 c = sym (first-none _ (c .before .loop .level) places systemMaster (omega arith)) ∙ c .before .loop .inv .1
 
 pub winner-of-spec : {M : Type 1} → statement M
 winner-of-spec =

@@ -1,5 +1,6 @@
 -- The loop's invariant: the rows left to judge, with those before them in the table, give the judgement of all.
 use Prim.Native.Nat.{suc, _+_, _-_, _≤_}
+use Rattle.basics.specs.Limits.{rowsMost}
 use Rattle.frame.specs.declared.LevelRows.{LevelRows}
 use Rattle.sheet.proofs.Laws.{rows-on, rows-not, rows-fault}
 use Rattle.sheet.specs.Sheet.{levels, rowsFrom, withLevel}
@@ -20,7 +21,7 @@ Inv-loop bytes list listed count at rows₀ i₀ place₀ rows i place =
     (i ≤ count)
     × (rowsFrom levels (source listed bytes list) (count - i) i (record { rows = rows; count = count }) place
     ≡ rowsFrom levels (source listed bytes list) count 0 (levels .none count) at)
-    × (length rows ≡ 16)
+    × (length rows ≡ rowsMost)
 
 abbrev μ-loop : tie.MeasureT-loop
 μ-loop bytes list listed count at rows₀ i₀ place₀ rows i place = count - i

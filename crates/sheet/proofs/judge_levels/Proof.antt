@@ -1,3 +1,4 @@
+use Rattle.basics.specs.Limits.{rowsMost}
 use Rattle.sheet.proofs.Laws.{at-most}
 use Rattle.sheet.specs.Sheet.{counted}
 use borrow.Author.Needs.{needs}
@@ -18,7 +19,7 @@ cast-judge-level-rows : tie.Need-cast-judge-level-rows
 cast-judge-level-rows c = search needs
 
 judge-level-rows-requires : tie.Need-judge-level-rows-requires
-judge-level-rows-requires c κs = at-most _ 1 16 _ _ (c .before .before .before .number-between .ensures) (c .before .got2 .given .1)
+judge-level-rows-requires c κs = at-most _ 1 rowsMost _ _ (c .before .before .before .number-between .ensures) (c .before .got2 .given .1)
 
 returns : tie.Need-returns
 unfolding counted

@@ -1,5 +1,6 @@
 -- The loop's invariant: the table holds the rows passed.
 use Prim.Native.Nat.{_+_, _-_, _≤_, min}
+use Rattle.basics.specs.Limits.{rowsMost}
 use Rattle.frame.specs.declared.SlaveRows.{SlaveRows}
 use Rattle.sheet.specs.Sheet.{slaves}
 use Rattle.sheetlist.proofs.HeldLaws.{slave-on}
@@ -13,7 +14,7 @@ use Rattle.sheetlist.proofs.slaves_of.Tie as tie
 
 abbrev Inv-loop : tie.InvT-loop
 Inv-loop list from count present rows₀ i₀ rows i = (i ≤ present) ×
-    (_≡_ {A = SlaveRows} (record { rows = rows; count = count }) (table slaves list (from + 1) count i)) × (length rows ≡ 16)
+    (_≡_ {A = SlaveRows} (record { rows = rows; count = count }) (table slaves list (from + 1) count i)) × (length rows ≡ rowsMost)
 
 abbrev μ-loop : tie.MeasureT-loop
 μ-loop list from count present rows₀ i₀ rows i = present - i
@@ -73,7 +74,7 @@ cast-count c = omega arith
 returns : tie.Need-returns Inv-loop μ-loop
 unfolding slavesOf slaveCount
 returns c =
-    let e : c .before .loop .i ≡ min (c .before .before .before .number-in .result) 16 = omega arith in
+    let e : c .before .loop .i ≡ min (c .before .before .before .number-in .result) rowsMost = omega arith in
     rw (← c .before .before .before .before .slaves-from .ensures .0, ← c .before .before .before .number-in .ensures, ← e)
     (c .before .loop .inv .1)
 

@@ -1,4 +1,5 @@
 use Prim.Native.Nat.{ℕ, _-_, _≤_}
+use Rattle.basics.specs.Limits.{places}
 use Rattle.basics.specs.Scan.{allBelow}
 use Rattle.sound.specs.Tables.{requestAt, isBlankOr, areBlank}
 use mathlib.Core.Path.{_≡_, refl}
@@ -9,10 +10,10 @@ use Rattle.sound.proofs.are_blank.Tie as tie
 
 abbrev Inv-loop : tie.InvT-loop
 Inv-loop direction space address left offset all₀ level₀ all level =
-    (level ≤ 16) × (all ≡ allBelow (λ (l : ℕ). isBlankOr (requestAt direction space address left offset l)) level)
+    (level ≤ places) × (all ≡ allBelow (λ (l : ℕ). isBlankOr (requestAt direction space address left offset l)) level)
 
 abbrev μ-loop : tie.MeasureT-loop
-μ-loop direction space address left offset all₀ level₀ all level = 16 - level
+μ-loop direction space address left offset all₀ level₀ all level = places - level
 
 loop-holds : tie.Need-loop-holds Inv-loop μ-loop
 unfolding allBelow
@@ -38,7 +39,7 @@ loop-again c =
 
 returns : tie.Need-returns Inv-loop μ-loop
 unfolding areBlank
-returns c = let e : c .before .loop .level ≡ 16 = omega arith in rw e at (c .before .loop .inv .1)
+returns c = let e : c .before .loop .level ≡ places = omega arith in rw e at (c .before .loop .inv .1)
 
 pub are-blank-spec : {M : Type 1} → statement M
 are-blank-spec =

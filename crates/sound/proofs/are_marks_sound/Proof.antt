@@ -1,5 +1,6 @@
 use Prim.Native.Nat.{ℕ, _-_, _≤_}
 use Rattle.basics.proofs.ScanLaws.{all-more, all-miss}
+use Rattle.basics.specs.Limits.{places}
 use Rattle.basics.specs.Scan.{allBelow}
 use Rattle.channel.specs.Line.{isInactive}
 use Rattle.sound.specs.Tables.{areMarked}
@@ -13,10 +14,10 @@ use Rattle.sound.proofs.are_marks_sound.Tie as tie
 
 abbrev Inv-loop : tie.InvT-loop
 Inv-loop fair inactive active level₀ level =
-    (level ≤ 16) × (allBelow (λ (l : ℕ). not (isInactive inactive l) || (getD fair l false && active)) level ≡ true)
+    (level ≤ places) × (allBelow (λ (l : ℕ). not (isInactive inactive l) || (getD fair l false && active)) level ≡ true)
 
 abbrev μ-loop : tie.MeasureT-loop
-μ-loop fair inactive active level₀ level = 16 - level
+μ-loop fair inactive active level₀ level = places - level
 
 loop-holds : tie.Need-loop-holds Inv-loop μ-loop
 unfolding allBelow
@@ -30,7 +31,7 @@ element-copy-out-if1-2 c = omega arith
 
 returns : tie.Need-returns Inv-loop μ-loop
 unfolding areMarked
-returns c = sym (all-miss _ (c .before .before .before .before .loop .level) 16 (omega arith) (not-true _ (c .if1 .taken)))
+returns c = sym (all-miss _ (c .before .before .before .before .loop .level) places (omega arith) (not-true _ (c .if1 .taken)))
 
 add-level : tie.Need-add-level Inv-loop μ-loop
 add-level c = omega arith
@@ -45,7 +46,7 @@ loop-again c =
 
 returns-2 : tie.Need-returns-2 Inv-loop μ-loop
 unfolding areMarked
-returns-2 c = let e : c .before .loop .level ≡ 16 = omega arith in sym (rw e at (c .before .loop .inv .1))
+returns-2 c = let e : c .before .loop .level ≡ places = omega arith in sym (rw e at (c .before .loop .inv .1))
 
 pub are-marks-sound-spec : {M : Type 1} → statement M
 are-marks-sound-spec =

@@ -1,5 +1,6 @@
 use Prim.Native.Nat.{ℕ, _+_, _-_, _*_, _≤_}
 use Rattle.basics.proofs.ScanLaws.{all-more, all-miss}
+use Rattle.basics.specs.Limits.{places, rowsMost}
 use Rattle.basics.specs.Scan.{allBelow}
 use Rattle.channel.specs.declared.Request.{Request}
 use Rattle.frame.specs.Frame.{present as presentRows}
@@ -17,12 +18,12 @@ use Rattle.sound.proofs.are_open_sound.Tie as tie
 
 abbrev Inv-loop : tie.InvT-loop
 Inv-loop setup present direction space address left offset slaves count level₀ i₀ level i =
-    (level ≤ 16) × (count ≡ presentRows (setup .slaves .count)) × (i ≤ count)
+    (level ≤ places) × (count ≡ presentRows (setup .slaves .count)) × (i ≤ count)
     × (allBelow (λ (l : ℕ). openSound setup (getD present l false) l (requestAt direction space address left offset l)) level ≡ true)
     × SearchedTo (setup .slaves) (requestAt direction space address left offset level) i count
 
 abbrev μ-loop : tie.MeasureT-loop
-μ-loop setup present direction space address left offset slaves count level₀ i₀ level i = (16 - level) * 17 + (16 - i)
+μ-loop setup present direction space address left offset slaves count level₀ i₀ level i = (places - level) * (rowsMost + 1) + (rowsMost - i)
 
 -- the requests that the function was lent
 abbrev rests : tie.Start Inv-loop μ-loop → ℕ → Request
@@ -62,7 +63,7 @@ returns c =
     turn-none (f .args .setup) (now (f .args .present)) (rests f) (l .level) _ (c .before .before .before .request-at .ensures)
     (l .i) _ (l .inv .4) (ne-eqb _ 0 (c .before .if2 .left)) (omega arith)
     in
-    sym (all-miss _ (l .level) 16 (omega arith) e)
+    sym (all-miss _ (l .level) places (omega arith) e)
 
 mul-row : tie.Need-mul-row Inv-loop μ-loop
 mul-row c = omega arith
@@ -101,7 +102,7 @@ held c =
 
 returns-2 : tie.Need-returns-2 Inv-loop μ-loop
 unfolding areOpenSound
-returns-2 c = sym (all-miss _ (head (c .before) .loop .level) 16 (omega arith) (held (c .before) ∙ not-true _ (c .if5 .taken)))
+returns-2 c = sym (all-miss _ (head (c .before) .loop .level) places (omega arith) (held (c .before) ∙ not-true _ (c .if5 .taken)))
 
 add-level-2 : tie.Need-add-level-2 Inv-loop μ-loop
 add-level-2 c = omega arith
@@ -137,7 +138,7 @@ loop-again-3 c =
 
 returns-3 : tie.Need-returns-3 Inv-loop μ-loop
 unfolding areOpenSound
-returns-3 c = let e : c .before .loop .level ≡ 16 = omega arith in sym (rw e at (c .before .loop .inv .3))
+returns-3 c = let e : c .before .loop .level ≡ places = omega arith in sym (rw e at (c .before .loop .inv .3))
 
 pub are-open-sound-spec : {M : Type 1} → statement M
 are-open-sound-spec =

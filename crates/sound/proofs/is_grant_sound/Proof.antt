@@ -1,10 +1,11 @@
 use borrow.Author.Needs.{needs}
 use borrow.Author.Tests.{lt-leb, le-leb}
+use Rattle.basics.specs.Limits.{systemMaster}
 use Rattle.sound.proofs.is_grant_sound.Statement.{statement}
 use Rattle.sound.proofs.is_grant_sound.Tie as tie
 
 returns : tie.Need-returns
-returns c = rw (lt-leb _ 15 (c .if1 .taken))
+returns c = rw (lt-leb _ systemMaster (c .if1 .taken))
 
 mul-asking : tie.Need-mul-asking
 mul-asking c = search needs
@@ -19,7 +20,7 @@ element-copy-out-result-2 : tie.Need-element-copy-out-result-2
 element-copy-out-result-2 c = search needs
 
 returns-2 : tie.Need-returns-2
-returns-2 c = rw (le-leb _ 15 (c .before .before .before .if1 .left))
+returns-2 c = rw (le-leb _ systemMaster (c .before .before .before .if1 .left))
 
 pub is-grant-sound-spec : {M : Type 1} → statement M
 is-grant-sound-spec =

@@ -1,4 +1,5 @@
 use Prim.Native.Nat.{_+_, _-_, _≤_}
+use Rattle.basics.specs.Limits.{places}
 use Rattle.frame.specs.Frame.{present as presentRows}
 use Rattle.sound.proofs.TableLaws.{TellsFrom, tells-none, tells-more, tells-same, tells-all}
 use Rattle.frame.specs.Rows.{isLevel}
@@ -13,7 +14,7 @@ use Rattle.sound.proofs.members_of.Tie as tie
 
 abbrev Inv-loop : tie.InvT-loop
 Inv-loop levels present₀ fair₀ i₀ present fair i =
-    (i ≤ presentRows (levels .count)) × (length present ≡ 16) × (length fair ≡ 16)
+    (i ≤ presentRows (levels .count)) × (length present ≡ places) × (length fair ≡ places)
     × TellsFrom levels isLevel i present × TellsFrom levels isFairRow i fair
 
 abbrev μ-loop : tie.MeasureT-loop
@@ -26,8 +27,8 @@ loop-holds c =
       omega (arith, e),
       refl,
       refl,
-      tells-none a isLevel (replicate 16 false) _ (omega (arith, e)) (λ l k. getD-replicate 16 l false false k),
-      tells-none a isFairRow (replicate 16 false) _ (omega (arith, e)) (λ l k. getD-replicate 16 l false false k),
+      tells-none a isLevel (replicate places false) _ (omega (arith, e)) (λ l k. getD-replicate places l false false k),
+      tells-none a isFairRow (replicate places false) _ (omega (arith, e)) (λ l k. getD-replicate places l false false k),
     )
 
 sub-i : tie.Need-sub-i Inv-loop μ-loop

@@ -1,5 +1,6 @@
 use Prim.Native.Nat.{_+_, _-_, _≤_}
 use Rattle.basics.proofs.ScanLaws.{all-miss}
+use Rattle.basics.specs.Limits.{places, rowsMost}
 use Rattle.basics.specs.Scan.{allBelow}
 use Rattle.frame.proofs.FrameLaws.{count-fits}
 use Rattle.frame.proofs.RowLaws.{level-fits-is}
@@ -21,7 +22,7 @@ use Rattle.sound.proofs.seats_of.Tie as tie
 -- the rows from row i on keep the frame, and the arrays tell of them
 abbrev Inv-loop : tie.InvT-loop
 Inv-loop levels present₀ fair₀ count i₀ present fair i =
-    (i ≤ levels .count) × (levels .count ≤ 16) × (length present ≡ 16) × (length fair ≡ 16)
+    (i ≤ levels .count) × (levels .count ≤ rowsMost) × (length present ≡ places) × (length fair ≡ places)
     × (levelsFit levels ≡ allBelow (levelRowFits levels) i) × TellsFrom levels isLevel i present × TellsFrom levels isFairRow i fair
 
 abbrev μ-loop : tie.MeasureT-loop
@@ -47,8 +48,8 @@ loop-holds c =
       refl,
       refl,
       rw counted,
-      tells-none a isLevel (replicate 16 false) _ (omega arith) (λ l k. getD-replicate 16 l false false k),
-      tells-none a isFairRow (replicate 16 false) _ (omega arith) (λ l k. getD-replicate 16 l false false k),
+      tells-none a isLevel (replicate places false) _ (omega arith) (λ l k. getD-replicate places l false false k),
+      tells-none a isFairRow (replicate places false) _ (omega arith) (λ l k. getD-replicate places l false false k),
     )
 
 sub-i : tie.Need-sub-i Inv-loop μ-loop
