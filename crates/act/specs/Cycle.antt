@@ -55,6 +55,10 @@ restAfter q n =
       offset = q .offset + n;
     })
 
+-- the time of the transfer that holds the next byte of a request: the running or next one
+unfoldable pub nextTime : Path → Request → ℕ
+nextTime path q = transferTime (path .width) (path .port) (path .time) (q .address) (q .left)
+
 -- one cycle: all that a step, its log line, the stores and the bound know of it
 pub record Cycle : Type 0 where
   -- "the clock grows by the slave's cycle time"
@@ -79,7 +83,7 @@ cycleBefore path q n rest =
       bytes = n;
       rest = rest;
       ends = isTransferEnd (path .width) (rest .address) (rest .left);
-      next = transferTime (path .width) (path .port) (path .time) (rest .address) (rest .left);
+      next = nextTime path rest;
     }
 
 -- the next cycle of a request

@@ -17,7 +17,7 @@ use Rattle.channel.specs.declared.Phase.the-variants.{Arbitrating, Grant
 use Rattle.channel.specs.declared.Asked.the-variants.{Never, At}
 use Rattle.channel.specs.declared.Channel.{Channel}
 use Rattle.channel.specs.Channel.{ownerOf, hasRequest}
-use Rattle.channel.specs.Line.{isInactive, waits, drives, lineActive, line, asks, othersAsk, cleared, timed, lineRule, winner}
+use Rattle.channel.specs.Line.{isInactive, waits, drives, lineActive, line, asks, othersAsk, cleared, timed, lineRule, winner, winnerFrom}
 
 -- what it takes to drive the line, as facts
 pub record Drives (left : List ℕ) (inactive : List Bool) (owner l : ℕ) : Type 0 where
@@ -100,7 +100,7 @@ line-after ch =
 pub winner-is : (left : List ℕ) (inactive : List Bool)
     → ((waits left inactive (winner left inactive) ≡ true) × (winner left inactive < places))
     ⊎ ((winner left inactive ≡ systemMaster) × (anyBelow (waits left inactive) places ≡ false))
-unfolding winner
+unfolding winnerFrom
 winner-is left inactive =
     by-test (anyBelow (waits left inactive) places)
     (λ t.
@@ -112,7 +112,7 @@ winner-is left inactive =
 
 -- "The lowest-numbered level with an open request and no inactive mark wins": whoever waits is not below the winner
 pub winner-lowest : (left : List ℕ) (inactive : List Bool) (l : ℕ) → l < places → waits left inactive l ≡ true → winner left inactive ≤ l
-unfolding winner
+unfolding winnerFrom
 winner-lowest left inactive l h e = first-least (waits left inactive) 0 places systemMaster l (omega arith) (omega (arith, h)) e
 
 -- an asked time stays while the channel is granted: the 7,800 ns begin once

@@ -1,5 +1,5 @@
 -- Document 01, "The line rule", and the winner of "One step".
-use Prim.Native.Nat.{ℕ}
+use Prim.Native.Nat.{ℕ, _-_}
 use mathlib.Core.Bool.{Bool, false, cond, not, _&&_}
 use mathlib.Core.List.{List}
 use lib.ListN.{getD, replicate}
@@ -56,6 +56,10 @@ timed ch = changed ch (ch .phase) (askedNow (ch .phase) (ch .asked) (line ch) (c
 abbrev pub lineRule : Channel → Channel
 lineRule ch = timed (cleared ch)
 
--- "The lowest-numbered level with an open request and no inactive mark wins (001: 0 is highest). With none, level 15 wins."
-unfoldable pub winner : List ℕ → List Bool → ℕ
-winner left inactive = firstFrom (waits left inactive) 0 places systemMaster
+-- "The lowest-numbered level with an open request and no inactive mark wins (001: 0 is highest). With none, level 15 wins.": the lowest from a level on,
+-- and of all
+unfoldable pub winnerFrom : List ℕ → List Bool → ℕ → ℕ
+winnerFrom left inactive low = firstFrom (waits left inactive) low (places - low) systemMaster
+
+abbrev pub winner : List ℕ → List Bool → ℕ
+winner left inactive = winnerFrom left inactive 0

@@ -2,6 +2,7 @@
 // -PREEMPT, the line rule, the winner of an arbitration, and the channel after set-up.
 use basics::NO_OWNER;
 use basics::PLACES;
+use basics::PLACES_U8;
 use basics::SYSTEM_MASTER;
 use frame::FoundSlave;
 use frame::Setup;
@@ -12,7 +13,7 @@ use refusal::Verdict;
 ghost use mathlib.Core.Path.{_≡_};
 ghost use mathlib.Core.Bool.{cond};
 ghost use Rattle.channel.specs.Channel.{ownerOf, placeIn, noRequest, requestOf, withRequest, fresh, setUp};
-ghost use Rattle.channel.specs.Line.{lineActive, winner, cleared, askedNow, timed, lineRule};
+ghost use Rattle.channel.specs.Line.{lineActive, winnerFrom, cleared, askedNow, timed, lineRule};
 ghost use Rattle.channel.specs.Slave.{slaveOf};
 
 // The channel is arbitrating, or granted to one level.
@@ -152,12 +153,13 @@ pub fn line_active<'a>(left: &'a [u32; PLACES], inactive: &'a [bool; PLACES], ph
     false
 }
 
-// The lowest-numbered level with an open request and no inactive mark; with none, 15.
-pub fn winner_of<'a>(left: &'a [u32; PLACES], inactive: &'a [bool; PLACES]) -> u8
-    ensures { λ r. ⌜ r ≡ winner (now (left .entry)) (now (inactive .entry)) ⌝ }
+// The lowest-numbered level from `low` on with an open request and no inactive mark; with none, 15. From 0 on it is the winner
+// of an arbitration, and so it is from a level on below which nobody waits.
+pub fn winner_from<'a>(left: &'a [u32; PLACES], inactive: &'a [bool; PLACES], low: u8) -> u8
+    ensures { λ r. ⌜ r ≡ winnerFrom (now (left .entry)) (now (inactive .entry)) low ⌝ }
 {
-    let mut level: u8 = 0;
-    while level < NO_OWNER {
+    let mut level: u8 = low;
+    while level < PLACES_U8 {
         let at = level as usize;
         if (left[at] != 0) & !inactive[at] {
             return level;

@@ -89,7 +89,7 @@ module _ (setup : Setup) (framed : isFramed setup ≡ true) (ch : Channel) (shap
   unfolding cycleOf
   ends-words = refl
 
-  cycle-on : ch .clock + slaveOf (setup .slaves) (requestOf ch o) .time ≤ clockLimit → endsTransfer setup o (requestOf ch o) ≡ false
+  cycle-on : clockAt setup ch o ≤ clockLimit → endsTransfer setup o (requestOf ch o) ≡ false
       → (advancedBy setup ch (plan.Cycle o) .channel .phase ≡ Granted o)
       × (requestOf (advancedBy setup ch (plan.Cycle o) .channel) o ≡ restOf setup o (requestOf ch o))
   unfolding cycleTurn
@@ -104,7 +104,7 @@ module _ (setup : Setup) (framed : isFramed setup ≡ true) (ch : Channel) (shap
   unfolding cycleTurn
   next-cycle = cycle-words
 
-  cycle-whole : ch .clock + slaveOf (setup .slaves) (requestOf ch o) .time ≤ clockLimit → Goes (advancedBy setup ch (plan.Cycle o) .channel)
+  cycle-whole : clockAt setup ch o ≤ clockLimit → Goes (advancedBy setup ch (plan.Cycle o) .channel)
       → runsOn setup o (requestOf ch o) (added (advancedBy setup ch (plan.Cycle o) .answer) log) ≡ true
   cycle-whole room on =
       by-test (endsTransfer setup o (requestOf ch o))

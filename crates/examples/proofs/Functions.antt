@@ -142,7 +142,7 @@ module _ {M : Type 1} (𝓤 : URA M) (H : Heap 𝓤) (A : Atoms 𝓤) (mem : Mem
       × One channel.put_request.ended channel.put_request.clauses
       × One channel.slave_of.ended channel.slave_of.clauses
       × One channel.line_active.ended channel.line_active.clauses
-      × One channel.winner_of.ended channel.winner_of.clauses
+      × One channel.winner_from.ended channel.winner_from.clauses
       × One channel.asked_if.ended channel.asked_if.clauses
       × One channel.line_rule.ended channel.line_rule.clauses
       × One channel.fresh_channel.ended channel.fresh_channel.clauses

@@ -30,6 +30,7 @@ use Rattle.sound.specs.Request.{requestVerdict}
 use Rattle.post.specs.declared.Order.{Order}
 use Rattle.post.specs.Post.{requestIn, postVerdict, postOf}
 use Rattle.act.specs.declared.Entry.{Entry}
+use Rattle.act.specs.Cycle.{pathOf, cycleOf}
 use Rattle.act.specs.Turn.{arbitrationTime}
 use Rattle.logline.specs.Text.{hasRoom as lineRoom}
 use Rattle.tally.specs.declared.Tally.{Tally}
@@ -125,7 +126,7 @@ resting true o = refl
 resting false o = refl
 
 phase-number : (setup : Setup) (ch : Channel) (p : Phase) → first (planNumbers (phasePlan setup ch p)) ≡ firstOf ((6, passes setup ch p) ∷ [])
-unfolding ownerPlan
+unfolding ownerPlan cycleOf pathOf
 phase-number setup ch Arbitrating = full (isOver ch arbitrationTime) (plan.Grant (winner (ch .left) (ch .inactive))) refl
 phase-number setup ch (Granted o) =
     by-test (eqb (requestOf ch o .left) 0)

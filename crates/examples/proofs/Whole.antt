@@ -33,7 +33,7 @@ use Rattle.frame.specs.Rows.{isPresent, levelOf}
 use Rattle.frame.specs.Find.{levelIndex, levelRow, holds, slaveIndex, slaveRow, slaveStoreLength}
 use Rattle.channel.specs.declared.Phase.the-variants.{Arbitrating, Granted}
 use Rattle.channel.specs.Channel.{fresh, hasRequest, withRequest}
-use Rattle.channel.specs.Line.{waits, drives, lineActive, asks, othersAsk, cleared, timed, winner}
+use Rattle.channel.specs.Line.{waits, drives, lineActive, asks, othersAsk, cleared, timed, winnerFrom}
 use Rattle.channel.specs.Slave.{slaveOf, startOf}
 use Rattle.sound.specs.Request.{isInRange, requestVerdict, transferOf}
 use Rattle.sound.specs.Sound.{
@@ -53,6 +53,7 @@ use Rattle.post.specs.Post.{postVerdict, posted, postOf}
 use Rattle.act.specs.Cycle.{
   pathOf,
   restAfter,
+  nextTime,
   cycleOf,
   isLate,
   isLeaving,
@@ -172,11 +173,11 @@ unfolding codes bytes
     allBelow anyBelow firstFrom isLength isWidth isPort transferTime
     isRowCount isMasterLength levelInRange isRising isLastFifteen levelRowFits levelsFit isTime limitOf isPlaced slaveInRange areApart isApart
     lengthsBefore slaveRowFits slavesFit isFramed levelIndex levelRow holds slaveIndex slaveRow slaveStoreLength
-    withRequest waits drives lineActive asks othersAsk cleared timed winner
+    withRequest waits drives lineActive asks othersAsk cleared timed winnerFrom
     isPresent levelOf slaveOf startOf isInRange requestVerdict transferOf allowance isWithin isGrantSound isOwnerSound isBlank isRequestSound
     areRequestsSound isMarkSound areMarksSound isInTime isAskedAt isAskedSound isSound
     postVerdict posted postOf
-    pathOf restAfter cycleOf isLate isLeaving endingOf clocked freed movedOn cycleEntry cycleTurn arbitrationTime granted grantTurn leaveTurn
+    pathOf restAfter nextTime cycleOf isLate isLeaving endingOf clocked freed movedOn cycleEntry cycleTurn arbitrationTime granted grantTurn leaveTurn
     addGrant addCycle addRelease ownerPlan actPlan readyVerdict planOf stepOf carryOf movedSlave movedMaster slaveAfter masterAfter after cycleFields
 computed = (
   record {

@@ -21,6 +21,7 @@ use Rattle.frame.proofs.FrameLaws.{framed-slaves, level-facts-of, quarter}
 use Rattle.frame.proofs.SlaveLaws.{Found, found-slave}
 use Rattle.channel.specs.declared.Request.{Request}
 use Rattle.channel.specs.Slave.{slaveFor, slaveOf, startOf}
+use Rattle.act.specs.Cycle.{pathOf, nextTime}
 use Rattle.sound.specs.Request.{isInRange, isInsideSlave, isOutsideMaster, requestVerdict, transferOf}
 
 -- a level's request that meets none of 3, 4 and 5
@@ -73,7 +74,7 @@ module _ (setup : Setup) (framed : isFramed setup ≡ true) where
 
   -- a transfer of an accepted request fits the allowance
   pub transfer-fits : (l : ℕ) (q : Request) → isPresent (setup .levels) l ≡ true → Fits setup l q → transferOf setup l q ≤ allowance setup
-  unfolding transferOf
+  unfolding transferOf nextTime pathOf
   transfer-fits l q p f =
       let s = slave-facts-of q f .facts in
       time-most (levelOf (setup .levels) l .width) (slaveOf (setup .slaves) q .port) (level-facts-of setup framed l p .0 .width) (s .port) (q .address) (q .left)

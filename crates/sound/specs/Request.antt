@@ -6,11 +6,12 @@ use lib.Dec.{leb, ltb}
 use Rattle.refusal.specs.Refusal.{refusedBy}
 use Rattle.refusal.specs.declared.Verdict.{Verdict}
 use Rattle.refusal.specs.declared.Verdict.the-variants.{Accepted}
-use Rattle.cycle.specs.Cycle.{isLength, transferTime}
+use Rattle.cycle.specs.Cycle.{isLength}
 use Rattle.frame.specs.declared.Setup.{Setup}
-use Rattle.frame.specs.Rows.{isSlave, levelOf}
+use Rattle.frame.specs.Rows.{isSlave}
 use Rattle.channel.specs.declared.Request.{Request}
-use Rattle.channel.specs.Slave.{slaveFor, slaveOf}
+use Rattle.channel.specs.Slave.{slaveFor}
+use Rattle.act.specs.Cycle.{pathOf, nextTime}
 
 -- "3: post: length 0 or above 4,096, direction or space above 1"
 unfoldable pub isInRange : Request → Bool
@@ -31,10 +32,4 @@ requestVerdict setup l q =
 
 -- the time of the transfer of a level that holds the next byte of a request: the running or next one
 unfoldable pub transferOf : Setup → ℕ → Request → ℕ
-transferOf setup l q =
-    transferTime
-    (levelOf (setup .levels) l .width)
-    (slaveOf (setup .slaves) q .port)
-    (slaveOf (setup .slaves) q .time)
-    (q .address)
-    (q .left)
+transferOf setup l q = nextTime (pathOf setup l q) q

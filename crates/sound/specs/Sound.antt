@@ -4,7 +4,7 @@ use mathlib.Core.Bool.{Bool, true, false, cond, not, _&&_, _||_}
 use mathlib.Core.List.{List}
 use lib.Dec.{eqb, leb}
 use Rattle.refusal.specs.Refusal.{isAccepted}
-use Rattle.basics.specs.Limits.{places, systemMaster}
+use Rattle.basics.specs.Limits.{places, systemMaster, clockLimit}
 use Rattle.basics.specs.Scan.{allBelow}
 use Rattle.frame.specs.declared.LevelRows.{LevelRows}
 use Rattle.frame.specs.declared.Setup.{Setup}
@@ -22,8 +22,8 @@ use Rattle.channel.specs.declared.Request.{Request}
 use Rattle.channel.specs.Channel.{hasRequest, requestOf}
 use Rattle.channel.specs.Line.{isInactive, line}
 use Rattle.sound.specs.Request.{requestVerdict, transferOf}
+
 -- the limit of the clock, for whoever has it from here
-pub use Rattle.basics.specs.Limits.{clockLimit}
 
 -- "granted to an absent level, or to one other than 15 without a request, or to an inactive one"
 unfoldable pub isGrantSound : LevelRows → Channel → ℕ → Bool

@@ -11,8 +11,8 @@ use Rattle.channel.specs.Channel.{noRequest}
 use Rattle.frame.specs.Rows.{hasBurst}
 use Rattle.act.specs.declared.Path.{Path}
 use Rattle.act.specs.declared.Ending.the-variants.{Kept}
-use Rattle.act.specs.Cycle.{cycleBytes, restAfter, cycleOf, isLate, isLeaving, releasedBy, endingOf}
-use Rattle.step.specs.Machine.{isInside, nextTime, leavesAt, afterOf}
+use Rattle.act.specs.Cycle.{cycleBytes, restAfter, cycleOf, isLate, isLeaving, releasedBy, endingOf, nextTime}
+use Rattle.step.specs.Machine.{isInside, leavesAt, afterOf}
 
 module _ (path : Path) (asked : Asked) (clock : ℕ) (rest : Request) (some : 0 < rest .left) where
   open-rest : eqb (rest .left) 0 ≡ false
@@ -29,7 +29,7 @@ module _ (path : Path) (asked : Asked) (clock : ℕ) (rest : Request) (some : 0 
     leaves-single e = rw (open-rest, not-false (eqb (rest .address % path .width) 0) end, e)
 
     pub leaves-late : hasBurst (path .options) ≡ true → isLate path asked clock (nextTime path rest) ≡ leavesAt path asked clock rest
-    unfolding leavesAt isLeaving nextTime
+    unfolding leavesAt isLeaving
     leaves-late e = rw (open-rest, not-false (eqb (rest .address % path .width) 0) end, e)
 
 module _ (path : Path) (asked : Asked) (clock : ℕ) (q : Request) (n : ℕ) (bytes : n ≡ cycleBytes path q) where

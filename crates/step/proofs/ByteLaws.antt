@@ -14,9 +14,8 @@ use Rattle.cycle.specs.Cycle.{isWidth, isPort, narrower, cycleLength, tabledLen
 use Rattle.cycle.proofs.Widths.{Pair, two-one, two-two, four-one, four-two, four-four, paired}
 use Rattle.channel.specs.declared.Request.{Request}
 use Rattle.act.specs.declared.Path.{Path}
-use Rattle.act.specs.Cycle.{cycleBytes}
+use Rattle.act.specs.Cycle.{cycleBytes, nextTime}
 use Rattle.step.specs.Step.{Way}
-use Rattle.step.specs.Machine.{nextTime}
 
 -- four bytes from a multiple of 4 on hold whole blocks of any Q, and a block of 1 is a byte
 whole-block : (w q a r : ℕ) → Pair w q → a % 4 ≡ 0 → 4 ≤ r → q ≡ cycleLength q a r

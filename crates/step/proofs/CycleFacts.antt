@@ -23,7 +23,7 @@ use Rattle.channel.specs.Slave.{slaveFor, slaveOf, startOf}
 use Rattle.sound.specs.Request.{transferOf}
 use Rattle.sound.proofs.RequestFacts.{Fits, slave-facts-of}
 use Rattle.act.specs.declared.Path.{Path}
-use Rattle.act.specs.Cycle.{Cycle, pathOf, cycleBytes, restAfter, cycleOf}
+use Rattle.act.specs.Cycle.{Cycle, pathOf, cycleBytes, restAfter, nextTime, cycleOf}
 
 -- "The i-th byte goes with address + i and offset + i.": the request from its n-th byte on
 abbrev pub further : Request → ℕ → Request
@@ -42,20 +42,15 @@ pub record Leaves (q : Request) (c : Cycle) : Type 0 where
 
 -- the running transfer has this cycle and, unless it ends with it, those of `next`, which is the rest's
 pub record Takes (setup : Setup) (l : ℕ) (q : Request) (c : Cycle) : Type 0 where
-  pub time : c .time ≡ slaveOf (setup .slaves) q .time
   pub transfer : transferOf setup l q ≡ c .time + cond (c .ends) 0 (c .next)
   pub next : 0 < c .rest .left → transferOf setup l (c .rest) ≡ c .next
-
--- the time of the transfer that holds the next byte, by a path
-abbrev transferBy : Path → Request → ℕ
-transferBy path q = transferTime (path .width) (path .port) (path .time) (q .address) (q .left)
 
 -- the words of a cycle
 cycle-time : (path : Path) (q : Request) → cycleOf path q .time ≡ path .time
 unfolding cycleOf
 cycle-time path q = refl
 
-next-by : (path : Path) (q : Request) → cycleOf path q .next ≡ transferBy path (cycleOf path q .rest)
+next-by : (path : Path) (q : Request) → cycleOf path q .next ≡ nextTime path (cycleOf path q .rest)
 unfolding cycleOf
 next-by path q = refl
 
@@ -104,12 +99,13 @@ module _ (path : Path) (q : Request) (width : isWidth (path .width) ≡ true) (p
 
   next-is : cycleOf path q .ends ≡ false → cycleOf path q .next
       ≡ transferTime (path .width) (path .port) (path .time) (q .address + cycleBytes path q) (q .left - cycleBytes path q)
-  unfolding cycleOf restAfter
+  unfolding cycleOf restAfter nextTime
   next-is e =
       let n = cycleBytes path q in
       by-test (eqb n (q .left)) (λ t. absurd (false≢true (sym (rw t at e)))) (λ f. rw f)
 
-  transfer-is : transferBy path q ≡ cycleOf path q .time + cond (cycleOf path q .ends) 0 (cycleOf path q .next)
+  transfer-is : nextTime path q ≡ cycleOf path q .time + cond (cycleOf path q .ends) 0 (cycleOf path q .next)
+  unfolding nextTime
   transfer-is =
       by-test (cycleOf path q .ends)
       (λ t.
@@ -160,13 +156,8 @@ module _ (setup : Setup) (framed : isFramed setup ≡ true) {k : ℕ} (q : Reque
         master = rw e (omega (arith, leaves .most, fits .master));
       }
 
--- the path's words
-path-time : (setup : Setup) (l : ℕ) (q : Request) → pathOf setup l q .time ≡ slaveOf (setup .slaves) q .time
-unfolding pathOf
-path-time setup l q = refl
-
-transfer-by : (setup : Setup) (l : ℕ) (q : Request) → transferOf setup l q ≡ transferBy (pathOf setup l q) q
-unfolding transferOf pathOf
+transfer-by : (setup : Setup) (l : ℕ) (q : Request) → transferOf setup l q ≡ nextTime (pathOf setup l q) q
+unfolding transferOf
 transfer-by setup l q = refl
 
 -- the next cycle of a level's request that fits
@@ -187,10 +178,9 @@ module _ (setup : Setup) (framed : isFramed setup ≡ true) (l : ℕ) (present :
   cycle-takes =
       let path = pathOf setup l q in
       record {
-        time = cycle-time path q ∙ path-time setup l q;
         transfer = transfer-by setup l q ∙ transfer-is path q path-width path-port (fits .some);
         next = λ h.
             transfer-by setup l (cycleOf path q .rest)
-            ∙ ap (λ (p : Path). transferBy p (cycleOf path q .rest)) (rest-path setup framed q fits (cycleOf path q) cycle-leaves l h)
+            ∙ ap (λ (p : Path). nextTime p (cycleOf path q .rest)) (rest-path setup framed q fits (cycleOf path q) cycle-leaves l h)
             ∙ sym (next-by path q);
       }

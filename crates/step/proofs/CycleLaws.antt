@@ -8,6 +8,7 @@ use borrow.Author.Tests.{ne-eqb}
 use lib.ListN.{length, getD, set}
 use lib.Seq.{set-set}
 use lib.Dec.{eqb, ltb}
+use Rattle.basics.specs.Limits.{places, clockLimit}
 use Rattle.basics.proofs.Tests.{by-test}
 use Rattle.frame.specs.declared.Setup.{Setup}
 use Rattle.channel.specs.declared.Phase.{Phase}
@@ -18,7 +19,6 @@ use Rattle.channel.specs.declared.Request.{Request}
 use Rattle.channel.specs.Channel.{placeIn, hasRequest, requestOf, withRequest, changed, Shaped}
 use Rattle.channel.specs.Line.{isInactive}
 use Rattle.channel.proofs.RequestLaws.{same-channel, request-same, with-shaped}
-use Rattle.sound.specs.Sound.{clockLimit}
 use Rattle.sound.proofs.SoundFacts.{sound-is}
 use Rattle.act.specs.declared.Path.{Path}
 use Rattle.act.specs.declared.Ending.{Ending}
@@ -91,7 +91,7 @@ module _ (path : Path) (w : Running) (o : ℕ) (phase : w .channel .phase ≡ Gr
       })
       cycle-channel
 
-module _ (setup : Setup) (budget : ℕ) (ch : Channel) (shaped : Shaped ch) (o : ℕ) (small : o < 16) (phase : ch .phase ≡ Granted o)
+module _ (setup : Setup) (budget : ℕ) (ch : Channel) (shaped : Shaped ch) (o : ℕ) (small : o < places) (phase : ch .phase ≡ Granted o)
     (path : Path) where
   -- a run in the midst of the owner's cycles
   abbrev movedTo : Tenure → Channel
@@ -250,7 +250,7 @@ module _ (setup : Setup) (budget : ℕ) (w : Running) (f : w .full ≡ false) (h
     (r : Ready setup (w .channel) (length (w .slave)) (length (w .master))) (k : Shaped (w .channel)) (o : ℕ)
     (phase : w .channel .phase ≡ Granted o)
     (some : eqb (getD (w .channel .left) o 0) 0 ≡ false) (path : Path) (route : path ≡ pathOf setup o (requestOf (w .channel) o)) where
-  small : o < 16
+  small : o < places
   small = omega (arith, sound-is setup (w .channel) (r .sound) .settled .owner o phase .small)
 
   start-same : midst setup budget (w .channel) k o small phase path (tenureOf w o) (w .slave) (w .master) ≡ w

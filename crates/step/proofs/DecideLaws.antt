@@ -5,11 +5,11 @@ use mathlib.Core.Bool.{Bool, true, false}
 use mathlib.Core.List.{List}
 use native.Mathlib.Omega.{arith}
 use lib.Dec.{eqb, ltb}
+use Rattle.basics.specs.Limits.{clockLimit}
 use Rattle.channel.specs.declared.Phase.{Phase}
 use Rattle.channel.specs.declared.Phase.the-variants.{Arbitrating, Granted}
 use Rattle.channel.specs.declared.Request.{Request}
 use Rattle.channel.specs.Line.{winner, lineActive}
-use Rattle.sound.specs.Sound.{clockLimit}
 use Rattle.act.specs.declared.Path.{Path}
 use Rattle.act.specs.Turn.{arbitrationTime}
 use Rattle.step.specs.declared.acts.Standing.{Standing}

@@ -9,6 +9,7 @@ use native.Mathlib.Omega.{arith}
 use borrow.Author.Tests.{ltb-false, leb-true, leb-false, not-true}
 use lib.ListN.{length, getD}
 use lib.Dec.{eqb, leb, ltb}
+use Rattle.basics.specs.Limits.{places, systemMaster, stepsMost}
 use Rattle.basics.proofs.Tests.{by-test}
 use Rattle.frame.specs.declared.Setup.{Setup}
 use Rattle.channel.specs.declared.Phase.{Phase}
@@ -44,7 +45,7 @@ use Rattle.step.proofs.CycleLaws.{cycles-turn}
 pub record Going (setup : Setup) (paths : List Path) (w : Running) : Type 0 where
   pub ready : Ready setup (w .channel) (length (w .slave)) (length (w .master))
   pub shaped : Shaped (w .channel)
-  pub routed : ArePaths setup (requestOf (w .channel)) paths 16
+  pub routed : ArePaths setup (requestOf (w .channel)) paths places
 
 open-is : (n : ℕ) → eqb n 0 ≡ false → not (eqb n 0) ≡ true
 open-is n e = rw e
@@ -84,17 +85,17 @@ module _ (setup : Setup) (paths : List Path) (w : Running) (g : Going setup path
   abbrev path : Path
   path = getD paths (placeIn (w .channel .phase)) noPath
 
-  small : (o : ℕ) → w .channel .phase ≡ Granted o → o < 16
+  small : (o : ℕ) → w .channel .phase ≡ Granted o → o < places
   small o p = omega (arith, sound-is setup (w .channel) (g .ready .sound) .settled .owner o p .small)
 
   path-is : (o : ℕ) → w .channel .phase ≡ Granted o → eqb (getD (w .channel .left) o 0) 0 ≡ false → path
       ≡ pathOf setup o (requestOf (w .channel) o)
   path-is o p some = ap (λ (x : Phase). getD paths (placeIn x) noPath) p ∙ g .routed o (small o p) some
 
-  pub place-below : placeIn (w .channel .phase) < 16
+  pub place-below : placeIn (w .channel .phase) < places
   place-below = below (w .channel .phase) refl
     where
-      below : (p : Phase) → w .channel .phase ≡ p → placeIn p < 16
+      below : (p : Phase) → w .channel .phase ≡ p → placeIn p < places
       below Arbitrating e = omega arith
       below (Granted o) e = small o e
 
@@ -102,7 +103,7 @@ module _ (setup : Setup) (paths : List Path) (w : Running) (g : Going setup path
   pub stepped : OneStep setup w (stepRun path w) (decidedIn path (w .channel) (w .tally) .acted .answer)
   stepped = one-step setup w (g .ready) (g .shaped) path path-is
 
-  pub loggable : w .done < 65535 → Loggable path w
+  pub loggable : w .done < stepsMost → Loggable path w
   loggable more =
       record {
         acts = actable-by setup (w .channel) (w .tally) _ _ (g .ready) path path-is;
@@ -130,7 +131,7 @@ module _ (setup : Setup) (budget : ℕ) (paths : List Path) (w : Running) (g : G
   turned-by later i e t = rw (t, e) turned
 
   -- what the turn relies on
-  pub turnable : (base low : ℕ) → budget ≤ 65535 → Lows base low (w .channel)
+  pub turnable : (base low : ℕ) → budget ≤ stepsMost → Lows base low (w .channel)
       → Turnable (path setup paths w g) base low budget w
   turnable base low most lows =
       let s = sound-is setup (w .channel) (g .ready .sound) .settled in
@@ -163,7 +164,7 @@ nearer budget done later full now e h m =
     m)
 
 -- the owner has a request or is 15, so that no search begins above it
-pub start-lows : (setup : Setup) (ch : Channel) (s m base : ℕ) → Ready setup ch s m → base ≤ 15 → NoneAsk (ch .left) base
+pub start-lows : (setup : Setup) (ch : Channel) (s m base : ℕ) → Ready setup ch s m → base ≤ systemMaster → NoneAsk (ch .left) base
     → Lows base base ch
 unfolding waits
 start-lows setup ch s m base r most none =

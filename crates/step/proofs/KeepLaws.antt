@@ -9,6 +9,7 @@ use borrow.Author.Tests.{leb-true, le-leb, eqb-true, eqb-false, not-true, not-fa
 use lib.Dec.{eqb}
 use lib.ListN.{length, length-set}
 use lib.Seq.{getD-set-other}
+use Rattle.basics.specs.Limits.{places, systemMaster, clockLimit}
 use Rattle.basics.proofs.ScanLaws.{any-ext}
 use Rattle.basics.proofs.Tests.{by-test, or-none}
 use Rattle.frame.specs.Frame.{isFramed}
@@ -29,7 +30,7 @@ use Rattle.frame.specs.Allowance.{allowance, isWithin}
 use Rattle.frame.specs.Rows.{isPresent, levelOf, hasBurst, isFair, hasLinger}
 use Rattle.channel.specs.Slave.{slaveOf, startOf}
 use Rattle.sound.specs.Request.{requestVerdict}
-use Rattle.sound.specs.Sound.{clockLimit, isBlank, isInTime}
+use Rattle.sound.specs.Sound.{isBlank, isInTime}
 use Rattle.sound.proofs.SoundFacts.{Grant as MayOwn, InTime, Settled, Sound}
 use Rattle.sound.proofs.RuleLaws.{rule-sound}
 use Rattle.sound.proofs.RequestFacts.{Fits, fits-is, fits-by}
@@ -57,7 +58,7 @@ use Rattle.act.specs.Turn.{arbitrationTime, granted, grantTurn, leaveTurn}
 use Rattle.step.proofs.CycleFacts.{Leaves, Takes, rest-slave, rest-start, rest-path, rest-fits, cycle-leaves, cycle-takes}
 use Rattle.step.specs.declared.Plan.{Plan}
 use Rattle.step.specs.declared.Plan.the-variants as plan
-use Rattle.step.specs.Plan.{actPlan}
+use Rattle.step.specs.Plan.{nextOf, actPlan}
 use Rattle.step.specs.Step.{advancedBy}
 use Rattle.step.proofs.PlanLaws.{says}
 
@@ -85,7 +86,7 @@ module _ (setup : Setup) (framed : isFramed setup ≡ true) (ch : Channel) (s : 
         asking = inl q;
         active =
             rw q
-            (by-test (isInactive (ch .inactive) 15) (λ t. absurd (false≢true (sym off ∙ s .marked 15 (omega arith) t))) (λ f. f));
+            (by-test (isInactive (ch .inactive) systemMaster) (λ t. absurd (false≢true (sym off ∙ s .marked systemMaster (omega arith) t))) (λ f. f));
       })
       (winner-is (ch .left) (ch .inactive))
 
@@ -126,7 +127,7 @@ abbrev pub pathAt : Setup → Channel → ℕ → Path
 pathAt setup ch o = pathOf setup o (requestOf ch o)
 
 abbrev pub nextCycle : Setup → Channel → ℕ → Cycle
-nextCycle setup ch o = cycleOf (pathAt setup ch o) (requestOf ch o)
+nextCycle setup ch o = nextOf setup o (requestOf ch o)
 
 abbrev pub clockAt : Setup → Channel → ℕ → ℕ
 clockAt setup ch o = ch .clock + nextCycle setup ch o .time
@@ -154,8 +155,8 @@ no-blank = refl
 -- one cycle of the owner of a sound channel
 module _ (setup : Setup) (framed : isFramed setup ≡ true) (ch : Channel) (shaped : Shaped ch) (s : Sound setup ch) (o : ℕ)
     (phase : ch .phase ≡ Granted o) (asks : hasRequest (ch .left) o ≡ true)
-    (room : ch .clock + slaveOf (setup .slaves) (requestOf ch o) .time ≤ clockLimit) where
-  small : o ≤ 15
+    (room : clockAt setup ch o ≤ clockLimit) where
+  small : o ≤ systemMaster
   small = s .settled .owner o phase .small
 
   present : isPresent (setup .levels) o ≡ true
@@ -202,7 +203,7 @@ module _ (setup : Setup) (framed : isFramed setup ≡ true) (ch : Channel) (shap
   positive : (n : ℕ) → eqb n 0 ≡ false → 0 < n
   positive n e = omega (arith, eqb-false n 0 e)
 
-  moved-request : (m : ℕ) → m < 16 → hasRequest (movedAt setup ch o .left) m ≡ true
+  moved-request : (m : ℕ) → m < places → hasRequest (movedAt setup ch o .left) m ≡ true
       → (isPresent (setup .levels) m ≡ true) × (requestVerdict setup m (requestOf (movedAt setup ch o) m) ≡ Accepted)
   moved-request m k h =
       by-test (eqb m o)
@@ -216,7 +217,7 @@ module _ (setup : Setup) (framed : isFramed setup ≡ true) (ch : Channel) (shap
       let r = s .settled .request m k (sym (kept-open m n) ∙ h) in
       (r .0, ap (requestVerdict setup m) (other m n) ∙ r .1))
 
-  moved-blank : (m : ℕ) → m < 16 → hasRequest (movedAt setup ch o .left) m ≡ false → isBlank (requestOf (movedAt setup ch o) m) ≡ true
+  moved-blank : (m : ℕ) → m < places → hasRequest (movedAt setup ch o .left) m ≡ false → isBlank (requestOf (movedAt setup ch o) m) ≡ true
   moved-blank m k h =
       by-test (eqb m o)
       (λ b.
@@ -226,7 +227,7 @@ module _ (setup : Setup) (framed : isFramed setup ≡ true) (ch : Channel) (shap
       (λ b. let n = eqb-false m o b in ap isBlank (other m n) ∙ s .settled .blank m k (sym (kept-open m n) ∙ h))
 
   -- the line is as it was: the owner has no part in it
-  drives-same : (l : ℕ) → l < 16
+  drives-same : (l : ℕ) → l < places
       → drives (movedAt setup ch o .left) (ch .inactive) (ownerOf (ch .phase)) l ≡ drives (ch .left) (ch .inactive) (ownerOf (ch .phase)) l
   unfolding drives
   drives-same l k =
@@ -238,11 +239,11 @@ module _ (setup : Setup) (framed : isFramed setup ≡ true) (ch : Channel) (shap
 
   pub line-same : line (movedAt setup ch o) ≡ line ch
   unfolding lineActive movedOn clocked withRequest
-  line-same = any-ext _ _ 16 drives-same
+  line-same = any-ext _ _ places drives-same
 
   -- the clock has room for the cycle
   clock-room : clockAt setup ch o ≤ clockLimit
-  clock-room = omega (arith, room, takes .time)
+  clock-room = room
 
   -- an owner that keeps the channel has something left
   not-done : leavesAt setup ch o ≡ false → eqb (restAt setup ch o .left) 0 ≡ false
@@ -310,7 +311,7 @@ module _ (setup : Setup) (framed : isFramed setup ≡ true) (ch : Channel) (shap
 
   -- released, with the marks as they are then
   freed-settled : (marks : List Bool)
-      → ((l : ℕ) → l < 16 → isInactive marks l ≡ true → (isPresent (setup .levels) l ≡ true) ×
+      → ((l : ℕ) → l < places → isInactive marks l ≡ true → (isPresent (setup .levels) l ≡ true) ×
       (isFair (levelOf (setup .levels) l .options) ≡ true))
       → Settled setup (freed (movedAt setup ch o) marks)
   unfolding freed movedOn clocked withRequest
@@ -326,7 +327,7 @@ module _ (setup : Setup) (framed : isFramed setup ≡ true) (ch : Channel) (shap
       }
 
   -- a mark set at a fair owner
-  marked-fair : isFair (levelOf (setup .levels) o .options) ≡ true → (l : ℕ) → l < 16 → isInactive (markedAt (ch .inactive) o) l ≡ true
+  marked-fair : isFair (levelOf (setup .levels) o .options) ≡ true → (l : ℕ) → l < places → isInactive (markedAt (ch .inactive) o) l ≡ true
       → (isPresent (setup .levels) l ≡ true) × (isFair (levelOf (setup .levels) l .options) ≡ true)
   marked-fair f l k e =
       by-test (eqb l o)
@@ -374,7 +375,7 @@ module _ (setup : Setup) (framed : isFramed setup ≡ true) (ch : Channel) (shap
   step-sound (plan.Cycle o) e = cycle-sound o e
 
 -- and keeps the arrays' shape
-pub freed-shaped : (ch : Channel) (marks : List Bool) → length marks ≡ 16 → Shaped ch → Shaped (freed ch marks)
+pub freed-shaped : (ch : Channel) (marks : List Bool) → length marks ≡ places → Shaped ch → Shaped (freed ch marks)
 unfolding freed
 freed-shaped ch marks n k = changed-shaped ch Arbitrating Never (ch .clock) marks n k
 

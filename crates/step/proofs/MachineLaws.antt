@@ -8,6 +8,7 @@ use borrow.Author.Tests.{ltb-false}
 use lib.ListN.{getD, set}
 use lib.Seq.{set-getD}
 use lib.Dec.{eqb, ltb}
+use Rattle.basics.specs.Limits.{places, clockLimit}
 use Rattle.basics.proofs.Tests.{by-test}
 use Rattle.frame.specs.declared.Setup.{Setup}
 use Rattle.channel.specs.declared.Phase.{Phase}
@@ -20,7 +21,6 @@ use Rattle.channel.specs.Channel.{placeIn, requestOf, withRequest, changed, Sha
 use Rattle.channel.specs.Line.{isInactive, cleared, timed, line, lineActive, winner}
 use Rattle.channel.specs.Slave.{slaveOf}
 use Rattle.channel.proofs.RequestLaws.{same-channel}
-use Rattle.sound.specs.Sound.{clockLimit}
 use Rattle.sound.proofs.SoundFacts.{Sound, sound-is}
 use Rattle.act.specs.declared.Path.{Path}
 use Rattle.act.specs.declared.Ending.{Ending}
@@ -151,7 +151,7 @@ module _ (setup : Setup) (ch : Channel) (t : Tally) (s m : ℕ) (r : Ready setup
       → Comes (pathOf setup o (requestOf ch o)) (Granted o) (requestPlan setup ch o (requestOf ch o))
   unfolding fullActed pathOf cycleOf cycleDecided cycleActed standingAfter cycleMarks movedOn cycleEntry cycleTurn
   cycling o e n =
-      by-test (ltb clockLimit (ch .clock + slaveOf (setup .slaves) (requestOf ch o) .time))
+      by-test (ltb clockLimit (ch .clock + nextCycle setup ch o .time))
       (λ full. (rw (n, full, put-same ch o), rw (n, full)))
       (λ room.
       let c = nextCycle setup ch o in
@@ -186,13 +186,13 @@ actable-by setup ch t s m r path way =
 
 -- the same from what the functions said
 module _ (setup : Setup) (ch : Channel) (t : Tally) (s m : ℕ) (r : Ready setup ch s m) (k : Shaped ch) where
-  small : (o : ℕ) → ch .phase ≡ Granted o → o < 16
+  small : (o : ℕ) → ch .phase ≡ Granted o → o < places
   small o e = omega (arith, sound-is setup ch (r .sound) .settled .owner o e .small)
 
-  pub place-small : placeIn (ch .phase) < 16
+  pub place-small : placeIn (ch .phase) < places
   place-small = below (ch .phase) refl
     where
-      below : (p : Phase) → ch .phase ≡ p → placeIn p < 16
+      below : (p : Phase) → ch .phase ≡ p → placeIn p < places
       below Arbitrating e = omega arith
       below (Granted o) e = small o e
 

@@ -8,6 +8,7 @@ use borrow.Author.Tests.{ltb-false, eqb-true, eq-eqb}
 use lib.Dec.{eqb, ltb}
 use lib.ListN.{getD, length, length-drop}
 use lib.Seq.{length-paste}
+use Rattle.basics.specs.Limits.{clockLimit}
 use Rattle.refusal.specs.declared.Refusal.{Refusal}
 use Rattle.refusal.specs.declared.Refusal.the-variants.{ClockFull}
 use Rattle.refusal.specs.declared.Verdict.the-variants.{Accepted, Refused as NotReady}
@@ -24,7 +25,7 @@ use Rattle.channel.specs.declared.Request.{Request}
 use Rattle.channel.specs.Channel.{requestOf}
 use Rattle.channel.specs.Line.{line, winner}
 use Rattle.channel.specs.Slave.{slaveOf}
-use Rattle.sound.specs.Sound.{clockLimit, isSound}
+use Rattle.sound.specs.Sound.{isSound}
 use Rattle.sound.proofs.SoundFacts.{sound-is}
 use Rattle.sound.proofs.RequestFacts.{fits-is, slave-facts-of}
 use Rattle.act.specs.declared.Path.{Path}
@@ -32,7 +33,7 @@ use Rattle.act.specs.Cycle.{pathOf, cycleEntry, cycleTurn}
 use Rattle.act.specs.Turn.{arbitrationTime, grantTurn, leaveTurn}
 use Rattle.step.specs.declared.Plan.{Plan}
 use Rattle.step.specs.declared.Plan.the-variants.{Idle, Refused, Grant, Leave, Cycle}
-use Rattle.step.specs.Plan.{timed, ownerPlan, phasePlan, actPlan, readyVerdict, planBy, planOf}
+use Rattle.step.specs.Plan.{nextOf, timed, ownerPlan, phasePlan, actPlan, readyVerdict, planBy, planOf}
 use Rattle.step.specs.declared.StepAnswer.the-variants.{Refused as NotDone}
 use Rattle.step.specs.declared.Carry.{Carry}
 use Rattle.step.specs.Machine.{planIn}
@@ -47,7 +48,7 @@ Says setup ch p (Leave o) = (p ≡ Granted o) × (eqb (getD (ch .left) o 0) 0 �
 Says setup ch p (Cycle o) =
     (p ≡ Granted o)
     × (eqb (getD (ch .left) o 0) 0 ≡ false)
-    × (ch .clock + slaveOf (setup .slaves) (requestOf ch o) .time ≤ clockLimit)
+    × (ch .clock + nextOf setup o (requestOf ch o) .time ≤ clockLimit)
 
 -- a plan that takes time is made only where the clock has room for it
 timed-says : (setup : Setup) (ch : Channel) (p : Phase) (time : ℕ) (plan : Plan) → (ch .clock + time ≤ clockLimit → Says setup ch p plan)
@@ -62,7 +63,7 @@ unfolding ownerPlan
 owner-says setup ch o =
     by-test (eqb (getD (ch .left) o 0) 0)
     (λ z. rw z (by-test (line ch) (λ t. rw t (refl, z, t)) (λ f. rw f (o, refl, z, f))))
-    (λ n. rw n (timed-says setup ch (Granted o) (slaveOf (setup .slaves) (requestOf ch o) .time) (Cycle o) (λ h. (refl, n, h))))
+    (λ n. rw n (timed-says setup ch (Granted o) (nextOf setup o (requestOf ch o) .time) (Cycle o) (λ h. (refl, n, h))))
 
 phase-says : (setup : Setup) (ch : Channel) (p : Phase) → Says setup ch p (phasePlan setup ch p)
 phase-says setup ch Arbitrating =

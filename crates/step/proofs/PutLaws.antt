@@ -8,6 +8,7 @@ use borrow.Author.Tests.{eq-eqb, ne-eqb}
 use lib.ListN.{getD, set}
 use lib.Seq.{getD-set-other}
 use lib.Dec.{eqb, ltb}
+use Rattle.basics.specs.Limits.{clockLimit}
 use Rattle.channel.specs.declared.Phase.{Phase}
 use Rattle.channel.specs.declared.Phase.the-variants.{Arbitrating, Granted}
 use Rattle.channel.specs.declared.Asked.{Asked}
@@ -16,7 +17,6 @@ use Rattle.channel.specs.declared.Channel.{Channel}
 use Rattle.channel.specs.declared.Request.{Request}
 use Rattle.channel.specs.Channel.{placeIn, hasRequest, requestOf, withRequest, changed}
 use Rattle.channel.specs.Line.{isInactive, waits}
-use Rattle.sound.specs.Sound.{clockLimit}
 use Rattle.act.specs.declared.Path.{Path}
 use Rattle.act.specs.declared.Ending.{Ending}
 use Rattle.act.specs.declared.Ending.the-variants.{Kept, Released, Marked}

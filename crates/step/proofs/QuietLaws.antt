@@ -5,6 +5,7 @@ use mathlib.Core.Bool.{Bool, true, false, false≢true}
 use mathlib.Core.List.{List}
 use native.Mathlib.Omega.{arith}
 use lib.Seq.{getD-set-other}
+use Rattle.basics.specs.Limits.{places, clockLimit}
 use Rattle.basics.proofs.Tests.{by-test}
 use Rattle.frame.specs.Frame.{isFramed}
 use Rattle.frame.specs.declared.Setup.{Setup}
@@ -17,7 +18,6 @@ use Rattle.channel.specs.Line.{isInactive, lineActive, line, lineRule}
 use Rattle.channel.proofs.LineLaws.{line-some, line-by}
 use Rattle.frame.specs.Rows.{isFair}
 use Rattle.channel.specs.Slave.{slaveOf}
-use Rattle.sound.specs.Sound.{clockLimit}
 use Rattle.sound.proofs.SoundFacts.{Sound}
 use Rattle.sound.proofs.RuleLaws.{rule-same}
 use Rattle.act.specs.Cycle.{releasedBy, endingOf, endingAt, clocked, freed, markedAt, endedBy, movedOn}
@@ -51,7 +51,7 @@ module _ (ch : Channel) (o : ℕ) (phase : ch .phase ≡ Granted o) (active : li
 -- one cycle
 module _ (setup : Setup) (framed : isFramed setup ≡ true) (ch : Channel) (shaped : Shaped ch) (s : Sound setup ch) (o : ℕ)
     (phase : ch .phase ≡ Granted o) (asks : hasRequest (ch .left) o ≡ true)
-    (room : ch .clock + slaveOf (setup .slaves) (requestOf ch o) .time ≤ clockLimit) where
+    (room : clockAt setup ch o ≤ clockLimit) where
   kept-sound : leavesAt setup ch o ≡ false → Sound setup (movedAt setup ch o)
   unfolding movedOn clocked withRequest
   kept-sound e =
@@ -65,7 +65,7 @@ module _ (setup : Setup) (framed : isFramed setup ≡ true) (ch : Channel) (shap
   -- asked or not, a released channel has marks only while the line is active
   freed-marked : (marks : List Bool) → (a : Asked) → ch .asked ≡ a
       → ((l : ℕ) → (l ≡ o → ⊥) → isInactive marks l ≡ isInactive (ch .inactive) l) → (a ≡ Never → marks ≡ ch .inactive)
-      → (l : ℕ) → l < 16 → isInactive marks l ≡ true → lineActive (movedAt setup ch o .left) marks Arbitrating ≡ true
+      → (l : ℕ) → l < places → isInactive marks l ≡ true → lineActive (movedAt setup ch o .left) marks Arbitrating ≡ true
   freed-marked marks Never a same none l k m =
       let was = s .marked l k (sym (ap (λ (x : List Bool). isInactive x l) (none refl)) ∙ m) in
       absurd (false≢true (sym (s .quiet o phase a) ∙ was))

@@ -4,6 +4,7 @@ use mathlib.Core.Bool.{cond}
 use mathlib.Core.List.{List}
 use lib.ListN.{length}
 use lib.Dec.{ltb}
+use Rattle.basics.specs.Limits.{stepsMost}
 use Rattle.refusal.specs.Refusal.{refusalBy}
 use Rattle.refusal.specs.declared.Verdict.{Verdict}
 use Rattle.refusal.specs.declared.Verdict.the-variants.{Accepted, Refused}
@@ -63,7 +64,7 @@ logFrom setup (suc left) done w p =
 -- the refusals are those of a run: "9 first, then 8, then 7"
 abbrev pub logBy : Setup → Verdict → ℕ → World → Page → LoggedOut
 logBy setup (Refused why) budget w p = closed (Refused why) 0 w p
-logBy setup Accepted budget w p = cond (ltb 65535 budget) (closed (Refused (refusalBy 7)) 0 w p) (logFrom setup budget 0 w p)
+logBy setup Accepted budget w p = cond (ltb stepsMost budget) (closed (Refused (refusalBy 7)) 0 w p) (logFrom setup budget 0 w p)
 
 unfoldable pub logOf : Setup → ℕ → World → Page → LoggedOut
 logOf setup budget w p = logBy setup (readyVerdict setup (w .channel) (length (w .slave)) (length (w .master))) budget w p

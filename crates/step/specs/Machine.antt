@@ -6,10 +6,11 @@ use mathlib.Core.Bool.{Bool, false, cond, not, _&&_, _||_}
 use mathlib.Core.List.{List}
 use lib.ListN.{set, replicate}
 use lib.Dec.{eqb, ltb}
+use Rattle.basics.specs.Limits.{places, systemMaster, clockLimit}
 use Rattle.refusal.specs.Refusal.{refusalBy}
 use Rattle.refusal.specs.declared.Refusal.{Refusal}
 use Rattle.refusal.specs.declared.Verdict.the-variants.{Refused as Stopped}
-use Rattle.cycle.specs.Cycle.{transferTime, masterLane, slaveLane}
+use Rattle.cycle.specs.Cycle.{masterLane, slaveLane}
 use Rattle.frame.specs.declared.Setup.{Setup}
 use Rattle.channel.specs.declared.Phase.{Phase}
 use Rattle.channel.specs.declared.Phase.the-variants.{Arbitrating, Granted}
@@ -19,7 +20,6 @@ use Rattle.channel.specs.declared.Channel.{Channel}
 use Rattle.channel.specs.declared.Request.{Request}
 use Rattle.channel.specs.Channel.{hasRequest, placeIn, withRequest, changed}
 use Rattle.channel.specs.Line.{waits, lineActive, winner}
-use Rattle.sound.specs.Sound.{clockLimit}
 use Rattle.act.specs.declared.Path.{Path}
 use Rattle.act.specs.declared.Hold.the-variants.{After}
 use Rattle.act.specs.declared.Ending.{Ending}
@@ -47,10 +47,6 @@ use Rattle.step.specs.Step.{Way, advancedBy, tallied, noCarry, carryOf, 
 abbrev pub isInside : ℕ → ℕ → Bool
 isInside width address = not (eqb (address % width) 0)
 
--- the time of the transfer that holds the next byte of what is left
-unfoldable pub nextTime : Path → Request → ℕ
-nextTime path rest = transferTime (path .width) (path .port) (path .time) (rest .address) (rest .left)
-
 -- whether an owner leaves goes by what its cycle has left
 unfoldable pub leavesAt : Path → Asked → ℕ → Request → Bool
 leavesAt path asked clock rest = isLeaving path asked clock (cycleBefore path rest 0 rest)
@@ -66,13 +62,13 @@ anyFrom f i (suc k) = f i || anyFrom f (suc i) k
 
 -- some level from this one on waits; some other than the owner has a request
 unfoldable pub waitsFrom : List ℕ → List Bool → ℕ → Bool
-waitsFrom left inactive from = anyFrom (waits left inactive) from (16 - from)
+waitsFrom left inactive from = anyFrom (waits left inactive) from (places - from)
 
 unfoldable pub asksBeside : List ℕ → ℕ → ℕ → Bool
 asksBeside left owner l = hasRequest left l && not (eqb l owner)
 
 unfoldable pub othersFrom : List ℕ → ℕ → ℕ → Bool
-othersFrom left from owner = anyFrom (asksBeside left owner) from (16 - from)
+othersFrom left from owner = anyFrom (asksBeside left owner) from (places - from)
 
 -- nobody below a level has a request; nobody below a level waits
 abbrev pub NoneAsk : List ℕ → ℕ → Type 0
@@ -83,14 +79,14 @@ NoneWait left inactive low = (l : ℕ) → l < low → waits left inactive l ≡
 
 -- where a search for the winner may begin
 pub record Search (left : List ℕ) (inactive : List Bool) (base low : ℕ) : Type 0 where
-  pub most : base ≤ 15
-  pub small : low ≤ 16
+  pub most : base ≤ systemMaster
+  pub small : low ≤ places
   pub none : NoneAsk left base
   pub clear : NoneWait left inactive low
 
 -- the marks after line rule 1
 unfoldable pub marksLeft : List ℕ → List Bool → Phase → List Bool
-marksLeft left inactive phase = cond (lineActive left inactive phase) inactive (replicate 16 false)
+marksLeft left inactive phase = cond (lineActive left inactive phase) inactive (replicate places false)
 
 abbrev pub grantMarks : List ℕ → List Bool → List Bool
 grantMarks left inactive = marksLeft left inactive (Granted (winner left inactive))
@@ -220,7 +216,7 @@ decidedMarks path s q left inactive = marksBy path s q left inactive (s .phase)
 
 -- what it relies on
 pub record Actable (path : Path) (s : Standing) (q : Request) : Type 0 where
-  pub small : (o : ℕ) → s .phase ≡ Granted o → o < 16
+  pub small : (o : ℕ) → s .phase ≡ Granted o → o < places
   pub way : (o : ℕ) → s .phase ≡ Granted o → eqb (q .left) 0 ≡ false → Way path q
 
 -- the path of an owner's request; without one there is none

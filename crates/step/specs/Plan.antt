@@ -3,6 +3,7 @@ use Prim.Native.Nat.{ℕ, _+_}
 use mathlib.Core.Bool.{cond, not, _&&_}
 use mathlib.Core.List.{[], _∷_}
 use lib.Dec.{eqb, ltb}
+use Rattle.basics.specs.Limits.{clockLimit}
 use Rattle.refusal.specs.Refusal.{refusalBy, refusedBy}
 use Rattle.refusal.specs.declared.Verdict.{Verdict}
 use Rattle.refusal.specs.declared.Verdict.the-variants.{Accepted, Refused as NotReady}
@@ -15,20 +16,25 @@ use Rattle.channel.specs.declared.Channel.{Channel}
 use Rattle.channel.specs.declared.Request.{Request}
 use Rattle.channel.specs.Channel.{requestOf}
 use Rattle.channel.specs.Line.{line, winner}
-use Rattle.channel.specs.Slave.{slaveOf}
-use Rattle.sound.specs.Sound.{clockLimit, isSound}
+use Rattle.sound.specs.Sound.{isSound}
+use Rattle.act.specs.Cycle.{Cycle, pathOf, cycleOf}
 use Rattle.act.specs.Turn.{arbitrationTime}
 use Rattle.step.specs.declared.Plan.{Plan}
-use Rattle.step.specs.declared.Plan.the-variants.{Idle, Refused, Grant, Leave, Cycle}
+use Rattle.step.specs.declared.Plan.the-variants.{Idle, Refused, Grant, Leave}
+use Rattle.step.specs.declared.Plan.the-variants as plan
 
 -- "6: step: the clock would pass 4,000,000,000"
 abbrev pub timed : Channel → ℕ → Plan → Plan
 timed ch time plan = cond (ltb clockLimit (ch .clock + time)) (Refused (refusalBy 6)) plan
 
+-- the next cycle of a level's request
+abbrev pub nextOf : Setup → ℕ → Request → Cycle
+nextOf setup l q = cycleOf (pathOf setup l q) q
+
 -- "Granted, owner without a request (only 15). Active line: release .. Otherwise idle"; "Granted, with a request. One cycle runs"
 abbrev pub requestPlan : Setup → Channel → ℕ → Request → Plan
 requestPlan setup ch owner q =
-    cond (eqb (q .left) 0) (cond (line ch) (Leave owner) Idle) (timed ch (slaveOf (setup .slaves) q .time) (Cycle owner))
+    cond (eqb (q .left) 0) (cond (line ch) (Leave owner) Idle) (timed ch (nextOf setup owner q .time) (plan.Cycle owner))
 
 unfoldable pub ownerPlan : Setup → Channel → ℕ → Plan
 ownerPlan setup ch owner = requestPlan setup ch owner (requestOf ch owner)

@@ -4,6 +4,7 @@ use mathlib.Core.Bool.{cond}
 use mathlib.Core.List.{List}
 use lib.ListN.{length}
 use lib.Dec.{ltb}
+use Rattle.basics.specs.Limits.{stepsMost}
 use Rattle.refusal.specs.Refusal.{refusalBy}
 use Rattle.refusal.specs.declared.Verdict.{Verdict}
 use Rattle.refusal.specs.declared.Verdict.the-variants.{Accepted, Refused}
@@ -68,7 +69,7 @@ runFrom setup (suc left) done w =
 -- their number, and 6."
 abbrev pub runBy : Setup → Verdict → ℕ → World → Out
 runBy setup (Refused why) budget w = ended (Refused why) 0 w
-runBy setup Accepted budget w = cond (ltb 65535 budget) (ended (Refused (refusalBy 7)) 0 w) (runFrom setup budget 0 w)
+runBy setup Accepted budget w = cond (ltb stepsMost budget) (ended (Refused (refusalBy 7)) 0 w) (runFrom setup budget 0 w)
 
 unfoldable pub runOf : Setup → ℕ → World → Out
 runOf setup budget w = runBy setup (readyVerdict setup (w .channel) (length (w .slave)) (length (w .master))) budget w

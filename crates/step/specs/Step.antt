@@ -6,6 +6,7 @@ use mathlib.Core.List.{List, [], _∷_}
 use lib.ListN.{length, drop}
 use lib.Seq.{paste}
 use lib.Dec.{eqb, leb}
+use Rattle.basics.specs.Limits.{memoryEnd, storeMost}
 use Rattle.refusal.specs.Refusal.{numberOf}
 use Rattle.cycle.specs.Cycle.{isWidth, isPort}
 use Rattle.frame.specs.Frame.{isFramed}
@@ -25,10 +26,10 @@ use Rattle.step.specs.declared.Carry.{Carry}
 use Rattle.step.specs.declared.Decision.{Decision}
 use Rattle.step.specs.declared.StepAnswer.{StepAnswer}
 use Rattle.step.specs.declared.StepAnswer.the-variants.{Done, Refused as NotDone}
-use Rattle.act.specs.Cycle.{pathOf, cycleBytes, cycleOf, Turned, cycleTurn}
+use Rattle.act.specs.Cycle.{pathOf, cycleBytes, Turned, cycleTurn}
 use Rattle.act.specs.Entry.{entryNumbers}
 use Rattle.act.specs.Turn.{grantTurn, leaveTurn, idleTurn}
-use Rattle.step.specs.Plan.{planOf}
+use Rattle.step.specs.Plan.{nextOf, planOf}
 
 -- a plan in the paper's numbers: the refusal; or 0, the letter of the line that its step writes, and whom the step is about
 abbrev pub planNumbers : Plan → List ℕ
@@ -53,7 +54,7 @@ doneBy turned = record { channel = turned .channel; answer = Done (turned .entry
 
 -- one cycle of an owner's request
 abbrev pub cycleAt : Setup → Channel → ℕ → Request → Turned
-cycleAt setup ch owner q = cycleTurn (pathOf setup owner q) ch owner (q .direction) (cycleOf (pathOf setup owner q) q)
+cycleAt setup ch owner q = cycleTurn (pathOf setup owner q) ch owner (q .direction) (nextOf setup owner q)
 
 -- "A refused call gives back the channel it got"; a refused step "has no entry"
 abbrev pub advancedBy : Setup → Channel → Plan → Advanced
@@ -155,10 +156,10 @@ pub record Way (path : Path) (q : Request) : Type 0 where
   pub width : isWidth (path .width) ≡ true
   pub port : isPort (path .port) ≡ true
   pub some : 0 < q .left
-  pub end : q .address + q .left ≤ 16777216
-  pub offset : q .offset + q .left ≤ 65536
+  pub end : q .address + q .left ≤ memoryEnd
+  pub offset : q .offset + q .left ≤ storeMost
   pub begins : path .base ≤ q .address
-  pub start : path .start ≤ 65536
+  pub start : path .start ≤ storeMost
 
 -- and in both stores
 pub record Roomy (path : Path) (q : Request) (s m : ℕ) : Type 0 where

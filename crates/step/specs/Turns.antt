@@ -6,6 +6,7 @@ use mathlib.Core.Bool.{Bool, true, false, cond}
 use mathlib.Core.List.{List}
 use lib.ListN.{length, getD}
 use lib.Dec.{eqb, ltb}
+use Rattle.basics.specs.Limits.{places, systemMaster, clockLimit, stepsMost}
 use Rattle.refusal.specs.Refusal.{refusalBy}
 use Rattle.refusal.specs.declared.Verdict.{Verdict}
 use Rattle.refusal.specs.declared.Verdict.the-variants.{Accepted, Refused}
@@ -17,7 +18,6 @@ use Rattle.channel.specs.declared.Channel.{Channel}
 use Rattle.channel.specs.declared.Request.{Request}
 use Rattle.channel.specs.Channel.{ownerOf, placeIn, requestOf, withRequest}
 use Rattle.channel.specs.Line.{isInactive}
-use Rattle.sound.specs.Sound.{clockLimit}
 use Rattle.act.specs.declared.Path.{Path}
 use Rattle.act.specs.declared.Ending.the-variants.{Kept}
 use Rattle.act.specs.Cycle.{pathOf, cycleBytes, cycleOf, endingOf, isKept, clocked, endedBy}
@@ -189,23 +189,23 @@ ArePaths setup request paths n = (l : ℕ) → l < n → eqb (request l .left) 0
 
 -- the levels below `base` have no request, those below `low` don't wait, and the owner is none of them
 pub record Lows (base low : ℕ) (ch : Channel) : Type 0 where
-  pub most : base ≤ 15
-  pub small : low ≤ 16
+  pub most : base ≤ systemMaster
+  pub small : low ≤ places
   pub none : NoneAsk (ch .left) base
   pub clear : NoneWait (ch .left) (ch .inactive) low
   pub owner : low ≤ ownerOf (ch .phase)
 
 -- what an owner's turn relies on
 pub record Owned (path : Path) (w : Running) (o : ℕ) : Type 0 where
-  pub small : o < 16
+  pub small : o < places
   pub active : isInactive (w .channel .inactive) o ≡ false
   pub roomy : eqb (getD (w .channel .left) o 0) 0 ≡ false
       → Roomy path (requestOf (w .channel) o) (length (w .slave)) (length (w .master))
 
 -- what a turn relies on
 pub record Turnable (path : Path) (base low budget : ℕ) (w : Running) : Type 0 where
-  pub clock : w .channel .clock ≤ 4000000000
-  pub budgeted : budget ≤ 65535
+  pub clock : w .channel .clock ≤ clockLimit
+  pub budgeted : budget ≤ stepsMost
   pub more : w .done < budget
   pub going : w .full ≡ false
   pub lows : Lows base low (w .channel)
@@ -249,5 +249,5 @@ logToCome setup budget g =
 pub record Loggable (path : Path) (w : Running) : Type 0 where
   pub acts : Actable path (standingOf (w .channel) (w .tally)) (requestOf (w .channel) (placeIn (w .channel .phase)))
   pub room : Room (decidedIn path (w .channel) (w .tally) .carry) (length (w .slave)) (length (w .master))
-  pub place : placeIn (w .channel .phase) < 16
-  pub more : w .done < 65535
+  pub place : placeIn (w .channel .phase) < places
+  pub more : w .done < stepsMost

@@ -11,6 +11,9 @@ use act::Ending;
 use act::Entry;
 use act::Hold;
 use act::Path;
+use basics::CLOCK_LIMIT;
+use basics::PLACES;
+use basics::PLACES_U8;
 use channel::Asked;
 use channel::Channel;
 use channel::Phase;
@@ -21,13 +24,13 @@ ghost use mathlib.Core.Path.{_≡_};
 ghost use Prim.Native.Nat.{_+_, _≤_, _<_};
 ghost use lib.ListN.{set};
 ghost use lib.Dec.{ltb};
+ghost use Rattle.basics.specs.Limits.{places, clockLimit};
 ghost use Rattle.channel.specs.Channel.{placeIn};
-ghost use Rattle.channel.specs.Line.{winner};
 ghost use Rattle.sound.specs.Tables.{requestAt};
 ghost use Rattle.act.specs.Cycle.{cycleBytes};
 ghost use Rattle.act.specs.Turn.{arbitrationTime};
 ghost use Rattle.step.specs.Step.{Way};
-ghost use Rattle.step.specs.Machine.{waitsFrom, othersFrom, NoneWait, Search, IsChosen, channelOf};
+ghost use Rattle.step.specs.Machine.{waitsFrom, othersFrom, Search, IsChosen, channelOf};
 ghost use Rattle.step.specs.Machine.{fullActed, grantedBy, restActed, standingAfter, stays, cycleActed, cycleDecided, cycleMarks};
 ghost use Rattle.step.specs.Machine.{Actable, decidedOf, decidedMarks};
 
@@ -72,14 +75,14 @@ pub(crate) fn place_at(standing: Standing) -> usize
 
 // What is left of a level's request, and laying it back.
 pub(crate) fn slot_at<'a>(
-    direction: &'a [u32; 16],
-    space: &'a [u32; 16],
-    address: &'a [u32; 16],
-    left: &'a [u32; 16],
-    offset: &'a [u32; 16],
+    direction: &'a [u32; PLACES],
+    space: &'a [u32; PLACES],
+    address: &'a [u32; PLACES],
+    left: &'a [u32; PLACES],
+    offset: &'a [u32; PLACES],
     at: usize,
 ) -> Request
-    requires { ⌜ at < 16 ⌝ }
+    requires { ⌜ at < places ⌝ }
     ensures { λ r. ⌜ r ≡ requestAt (now (direction .entry)) (now (space .entry)) (now (address .entry)) (now (left .entry)) (now (offset .entry)) at ⌝ }
 {
     Request {
@@ -92,15 +95,15 @@ pub(crate) fn slot_at<'a>(
 }
 
 pub(crate) fn put_slot(
-    direction: &mut [u32; 16],
-    space: &mut [u32; 16],
-    address: &mut [u32; 16],
-    left: &mut [u32; 16],
-    offset: &mut [u32; 16],
+    direction: &mut [u32; PLACES],
+    space: &mut [u32; PLACES],
+    address: &mut [u32; PLACES],
+    left: &mut [u32; PLACES],
+    offset: &mut [u32; PLACES],
     at: usize,
     slot: Request,
 )
-    requires { ⌜ at < 16 ⌝ }
+    requires { ⌜ at < places ⌝ }
     ensures { λ _. ⌜ now (direction .exit) ≡ set (now (direction .entry)) at (slot .direction) ⌝ }
     ensures { λ _. ⌜ now (space .exit) ≡ set (now (space .entry)) at (slot .space) ⌝ }
     ensures { λ _. ⌜ now (address .exit) ≡ set (now (address .entry)) at (slot .address) ⌝ }
@@ -117,12 +120,12 @@ pub(crate) fn put_slot(
 // The channel, put together again.
 pub(crate) fn channel_of(
     standing: Standing,
-    inactive: [bool; 16],
-    direction: [u32; 16],
-    space: [u32; 16],
-    address: [u32; 16],
-    left: [u32; 16],
-    offset: [u32; 16],
+    inactive: [bool; PLACES],
+    direction: [u32; PLACES],
+    space: [u32; PLACES],
+    address: [u32; PLACES],
+    left: [u32; PLACES],
+    offset: [u32; PLACES],
 ) -> Channel
     ensures { λ r. ⌜ r ≡ channelOf standing inactive direction space address left offset ⌝ }
 {
@@ -143,34 +146,17 @@ pub(crate) fn channel_of(
 
 // A step that takes so long would pass the clock's limit.
 pub(crate) fn is_full(clock: u32, time: u32) -> bool
-    ensures { λ r. ⌜ r ≡ ltb 4000000000 (clock + time) ⌝ }
+    ensures { λ r. ⌜ r ≡ ltb clockLimit (clock + time) ⌝ }
 {
-    4000000000 < clock as u64 + time as u64
-}
-
-// The lowest level with an open request and no inactive mark, where none below `low` waits; with none, 15.
-fn winner_from<'a>(left: &'a [u32; 16], inactive: &'a [bool; 16], low: u8) -> u8
-    requires { ⌜ low ≤ 16 ⌝ }
-    requires { ⌜ NoneWait (now left) (now inactive) low ⌝ }
-    ensures { λ r. ⌜ r ≡ winner (now (left .entry)) (now (inactive .entry)) ⌝ }
-{
-    let mut level: u8 = low;
-    while level < 16 {
-        let at = level as usize;
-        if (left[at] != 0) & !inactive[at] {
-            return level;
-        }
-        level += 1;
-    }
-    15
+    (CLOCK_LIMIT as u64) < clock as u64 + time as u64
 }
 
 // Some level from `from` on has an open request and isn't inactive.
-fn waits_from<'a>(left: &'a [u32; 16], inactive: &'a [bool; 16], from: u8) -> bool
+fn waits_from<'a>(left: &'a [u32; PLACES], inactive: &'a [bool; PLACES], from: u8) -> bool
     ensures { λ r. ⌜ r ≡ waitsFrom (now (left .entry)) (now (inactive .entry)) from ⌝ }
 {
     let mut level: usize = from as usize;
-    while level < 16 {
+    while level < PLACES {
         if (left[level] != 0) & !inactive[level] {
             return true;
         }
@@ -180,11 +166,11 @@ fn waits_from<'a>(left: &'a [u32; 16], inactive: &'a [bool; 16], from: u8) -> bo
 }
 
 // Some level from `from` on, other than the owner, has an open request.
-fn others_from(left: &[u32; 16], from: u8, owner: u8) -> bool
+fn others_from(left: &[u32; PLACES], from: u8, owner: u8) -> bool
     ensures { λ r. ⌜ r ≡ othersFrom (now (left .entry)) from owner ⌝ }
 {
     let mut level: u8 = from;
-    while level < 16 {
+    while level < PLACES_U8 {
         if (left[level as usize] != 0) & (level != owner) {
             return true;
         }
@@ -195,11 +181,16 @@ fn others_from(left: &[u32; 16], from: u8, owner: u8) -> bool
 
 // The winner and the line rule after its grant. No level below the winner waits, so that those above it are all there is to
 // look at; where none of them does, every mark goes, and those from `base` on are all that have a request.
-pub(crate) fn choose(left: &[u32; 16], inactive: &mut [bool; 16], base: u8, low: u8) -> Chosen
+pub(crate) fn choose(
+    left: &[u32; PLACES],
+    inactive: &mut [bool; PLACES],
+    base: u8,
+    low: u8,
+) -> Chosen
     requires { ⌜ Search (now left) (now inactive) base low ⌝ }
     ensures { λ r. ⌜ IsChosen (now (left .entry)) (now (inactive .entry)) (now (inactive .exit)) base r ⌝ }
 {
-    let winner = winner_from(left, inactive, low);
+    let winner = channel::winner_from(left, inactive, low);
     if waits_from(left, inactive, winner + 1) {
         return Chosen {
             winner: winner,
@@ -207,7 +198,7 @@ pub(crate) fn choose(left: &[u32; 16], inactive: &mut [bool; 16], base: u8, low:
             low: winner,
         };
     }
-    *inactive = [false; 16];
+    *inactive = [false; PLACES];
     let active = others_from(left, base, winner);
     Chosen {
         winner: winner,
@@ -228,7 +219,7 @@ pub(crate) fn full(standing: Standing) -> Acted
 
 // The winner is the owner, with no asked time until the line rule sets one.
 pub(crate) fn granted(standing: Standing, chosen: Chosen) -> Acted
-    requires { ⌜ standing .clock + arbitrationTime ≤ 4000000000 ⌝ }
+    requires { ⌜ standing .clock + arbitrationTime ≤ clockLimit ⌝ }
     ensures { λ r. ⌜ r ≡ grantedBy standing (chosen .winner) (chosen .active) ⌝ }
 {
     let clock = standing.clock + act::arbitration_time();
@@ -311,7 +302,7 @@ fn cycled(
     ending: Ending,
 ) -> Acted
     requires { ⌜ bytes ≡ cycleBytes path request ⌝ }
-    requires { ⌜ standing .clock + path .time ≤ 4000000000 ⌝ }
+    requires { ⌜ standing .clock + path .time ≤ clockLimit ⌝ }
     ensures { λ r. ⌜ r ≡ cycleActed path standing owner request ending ⌝ }
 {
     let clock = standing.clock + path.time;
@@ -356,10 +347,10 @@ fn decide_cycle(
     standing: Standing,
     owner: u8,
     request: Request,
-    inactive: &mut [bool; 16],
+    inactive: &mut [bool; PLACES],
 ) -> Decided
-    requires { ⌜ owner < 16 ⌝ }
-    requires { ⌜ standing .clock + path .time ≤ 4000000000 ⌝ }
+    requires { ⌜ owner < places ⌝ }
+    requires { ⌜ standing .clock + path .time ≤ clockLimit ⌝ }
     requires { ⌜ Way path request ⌝ }
     ensures { λ r. ⌜ r ≡ cycleDecided path standing owner request ⌝ }
     ensures { λ r. ⌜ now (inactive .exit) ≡ cycleMarks path standing owner request (now (inactive .entry)) ⌝ }
@@ -384,8 +375,8 @@ pub(crate) fn act_on(
     path: Path,
     standing: Standing,
     request: Request,
-    left: &[u32; 16],
-    inactive: &mut [bool; 16],
+    left: &[u32; PLACES],
+    inactive: &mut [bool; PLACES],
 ) -> Decided
     requires { ⌜ Actable path standing request ⌝ }
     ensures { λ r. ⌜ r ≡ decidedOf path standing request (now (left .entry)) (now (inactive .entry)) ⌝ }

@@ -10,10 +10,11 @@ ghost use mathlib.Core.Bool.{true};
 ghost use Prim.Native.Nat.{_+_, _%_, _≤_, _<_};
 ghost use lib.ListN.{length, drop};
 ghost use lib.Seq.{paste};
+ghost use Rattle.basics.specs.Limits.{memoryEnd, storeMost};
 ghost use Rattle.cycle.specs.Cycle.{isWidth, isPort};
-ghost use Rattle.act.specs.Cycle.{cycleBytes, restAfter, isLate};
+ghost use Rattle.act.specs.Cycle.{cycleBytes, restAfter, nextTime, isLate};
 ghost use Rattle.step.specs.Step.{Way, Room, carryOf, movedSlave, movedMaster};
-ghost use Rattle.step.specs.Machine.{isInside, nextTime, leavesAt, afterOf};
+ghost use Rattle.step.specs.Machine.{isInside, leavesAt, afterOf};
 
 // What a cycle leaves of its request, and how it ends.
 pub(crate) struct After {
@@ -39,8 +40,8 @@ pub(crate) fn bytes_of(path: Path, request: Request) -> u32
 // What is left of a request after some of its bytes.
 fn rest_of(request: Request, bytes: u32) -> Request
     requires { ⌜ bytes < request .left ⌝ }
-    requires { ⌜ request .address + request .left ≤ 16777216 ⌝ }
-    requires { ⌜ request .offset + request .left ≤ 65536 ⌝ }
+    requires { ⌜ request .address + request .left ≤ memoryEnd ⌝ }
+    requires { ⌜ request .offset + request .left ≤ storeMost ⌝ }
     ensures { λ r. ⌜ r ≡ restAfter request bytes ⌝ }
 {
     Request {

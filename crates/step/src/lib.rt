@@ -15,6 +15,7 @@ use acts::channel_of;
 use acts::place_at;
 use acts::put_slot;
 use acts::slot_at;
+use basics::STEPS_MOST;
 use channel::Channel;
 use channel::Request;
 use cycles::carry;
@@ -28,6 +29,7 @@ use turns::run_steps;
 ghost use mathlib.Core.Path.{_≡_};
 ghost use Prim.Native.Nat.{_<_};
 ghost use lib.ListN.{length};
+ghost use Rattle.basics.specs.Limits.{places};
 ghost use Rattle.frame.specs.Find.{slaveStoreLength};
 ghost use Rattle.channel.specs.Channel.{Shaped};
 ghost use Rattle.step.specs.Plan.{actPlan, readyVerdict, planOf};
@@ -104,7 +106,7 @@ pub fn ready_verdict(setup: Setup, channel: Channel, slave: usize, master: usize
 
 // The path of what is left of a level's request; without one there is none.
 fn path_for(setup: Setup, at: usize, request: Request) -> Path
-    requires { ⌜ at < 16 ⌝ }
+    requires { ⌜ at < places ⌝ }
     ensures { λ r. ⌜ r ≡ pathFor setup at request ⌝ }
 {
     if request.left == 0 {
@@ -333,7 +335,7 @@ fn run_ready(
     ensures { λ r. ⌜ now (master .exit) ≡ runBy setup Verdict.Accepted budget (world channel tally (now (slave .entry))
         (now (master .entry))) .master ⌝ }
 {
-    if 65535 < budget {
+    if STEPS_MOST < budget {
         return refused_run(channel, tally, Refusal::TooManySteps);
     }
     run_steps(setup, channel, tally, slave, master, budget)
@@ -388,7 +390,7 @@ fn log_ready(
     ensures { λ r. ⌜ now (out .exit) ≡ logBy setup Verdict.Accepted budget (world channel tally (now (slave .entry)) (now (master .entry)))
         (page (now (out .entry)) at) .out ⌝ }
 {
-    if 65535 < budget {
+    if STEPS_MOST < budget {
         return refused_log(channel, tally, Refusal::TooManySteps, at);
     }
     log_steps(setup, channel, tally, slave, master, out, at, budget)

@@ -13,12 +13,14 @@ use crate::cycles::carry;
 use crate::turns::paths_of;
 use crate::turns::verdict_of;
 use act::Path;
+use basics::PLACES;
 use channel::Channel;
 use frame::Setup;
 use tally::Tally;
 ghost use mathlib.Core.Path.{_≡_};
 ghost use Prim.Native.Nat.{_≤_};
 ghost use lib.ListN.{length};
+ghost use Rattle.basics.specs.Limits.{stepsMost};
 ghost use Rattle.channel.specs.Channel.{Shaped, placeIn};
 ghost use Rattle.step.specs.Step.{Ready};
 ghost use Rattle.step.specs.Run.{world};
@@ -39,12 +41,12 @@ fn log_step(
     path: Path,
     place: usize,
     log: Log,
-    inactive: &mut [bool; 16],
-    direction: &mut [u32; 16],
-    space: &mut [u32; 16],
-    address: &mut [u32; 16],
-    left: &mut [u32; 16],
-    offset: &mut [u32; 16],
+    inactive: &mut [bool; PLACES],
+    direction: &mut [u32; PLACES],
+    space: &mut [u32; PLACES],
+    address: &mut [u32; PLACES],
+    left: &mut [u32; PLACES],
+    offset: &mut [u32; PLACES],
     slave: &mut [u8],
     master: &mut [u8],
     out: &mut [u8],
@@ -97,7 +99,7 @@ pub(crate) fn log_steps(
 ) -> Logged
     requires { ⌜ Ready setup channel (length (now slave)) (length (now master)) ⌝ }
     requires { ⌜ Shaped channel ⌝ }
-    requires { ⌜ budget ≤ 65535 ⌝ }
+    requires { ⌜ budget ≤ stepsMost ⌝ }
     ensures { λ r. ⌜ r ≡ logFrom setup budget 0 (world channel tally (now (slave .entry)) (now (master .entry)))
         (page (now (out .entry)) at) .result ⌝ }
     ensures { λ r. ⌜ now (slave .exit) ≡ logFrom setup budget 0 (world channel tally (now (slave .entry)) (now (master .entry)))

@@ -19,6 +19,8 @@ use crate::cycles::carry;
 use crate::cycles::carry_of;
 use act::Ending;
 use act::Path;
+use basics::PLACES;
+use basics::SYSTEM_MASTER;
 use channel::Asked;
 use channel::Channel;
 use channel::Phase;
@@ -31,6 +33,7 @@ ghost use mathlib.Core.Path.{_≡_};
 ghost use Prim.Native.Nat.{_+_, _-_, _≤_, _<_};
 ghost use mathlib.Core.Bool.{false};
 ghost use lib.ListN.{length};
+ghost use Rattle.basics.specs.Limits.{places, systemMaster, clockLimit, stepsMost};
 ghost use Rattle.channel.specs.Channel.{Shaped};
 ghost use Rattle.channel.specs.Line.{isInactive};
 ghost use Rattle.sound.specs.Tables.{requestAt};
@@ -63,8 +66,8 @@ struct Tenure {
 fn cycle_on(path: Path, asked: Asked, now: Tenure, bytes: u32) -> Tenure
     requires { ⌜ Way path (now .request) ⌝ }
     requires { ⌜ bytes ≡ cycleBytes path (now .request) ⌝ }
-    requires { ⌜ now .clock + path .time ≤ 4000000000 ⌝ }
-    requires { ⌜ now .done < 65535 ⌝ }
+    requires { ⌜ now .clock + path .time ≤ clockLimit ⌝ }
+    requires { ⌜ now .done < stepsMost ⌝ }
     ensures { λ r. ⌜ r ≡ cycled path asked now ⌝ }
 {
     let clock = now.clock + path.time;
@@ -108,8 +111,8 @@ fn hold_channel(
     budget: u32,
 ) -> Tenure
     requires { ⌜ Roomy path (from .request) (length (now slave)) (length (now master)) ⌝ }
-    requires { ⌜ from .clock ≤ 4000000000 ⌝ }
-    requires { ⌜ budget ≤ 65535 ⌝ }
+    requires { ⌜ from .clock ≤ clockLimit ⌝ }
+    requires { ⌜ budget ≤ stepsMost ⌝ }
     ensures { λ r. ⌜ r ≡ held path asked (budget - from .done) from (now (slave .entry)) (now (master .entry)) .tenure ⌝ }
     ensures { λ r. ⌜ now (slave .exit) ≡ held path asked (budget - from .done) from (now (slave .entry)) (now (master .entry)) .slave ⌝ }
     ensures { λ r. ⌜ now (master .exit) ≡ held path asked (budget - from .done) from (now (slave .entry)) (now (master .entry)) .master ⌝ }
@@ -133,7 +136,7 @@ fn hold_channel(
 
 // A turn of one step.
 fn stepped_on(acted: Acted, done: u32, low: u8) -> State
-    requires { ⌜ done < 65535 ⌝ }
+    requires { ⌜ done < stepsMost ⌝ }
     ensures { λ r. ⌜ r ≡ onward acted done low ⌝ }
 {
     let standing = acted.standing;
@@ -151,23 +154,23 @@ fn run_cycles(
     at: usize,
     state: State,
     request: Request,
-    inactive: &mut [bool; 16],
-    direction: &mut [u32; 16],
-    space: &mut [u32; 16],
-    address: &mut [u32; 16],
-    left: &mut [u32; 16],
-    offset: &mut [u32; 16],
+    inactive: &mut [bool; PLACES],
+    direction: &mut [u32; PLACES],
+    space: &mut [u32; PLACES],
+    address: &mut [u32; PLACES],
+    left: &mut [u32; PLACES],
+    offset: &mut [u32; PLACES],
     slave: &mut [u8],
     master: &mut [u8],
     budget: u32,
 ) -> State
-    requires { ⌜ at < 16 ⌝ }
+    requires { ⌜ at < places ⌝ }
     requires { ⌜ state .standing .phase ≡ Phase.Granted at ⌝ }
     requires { ⌜ isInactive (now inactive) at ≡ false ⌝ }
     requires { ⌜ request ≡ requestAt (now direction) (now space) (now address) (now left) (now offset) at ⌝ }
     requires { ⌜ Roomy path request (length (now slave)) (length (now master)) ⌝ }
-    requires { ⌜ state .standing .clock ≤ 4000000000 ⌝ }
-    requires { ⌜ budget ≤ 65535 ⌝ }
+    requires { ⌜ state .standing .clock ≤ clockLimit ⌝ }
+    requires { ⌜ budget ≤ stepsMost ⌝ }
     ensures { λ r. ⌜ runningOf r (now (inactive .exit)) (now (direction .exit)) (now (space .exit)) (now (address .exit))
         (now (left .exit)) (now (offset .exit)) (now (slave .exit)) (now (master .exit))
         ≡ cyclesRun path budget at (runningOf state (now (inactive .entry)) (now (direction .entry)) (now (space .entry))
@@ -205,12 +208,12 @@ fn turn(
     path: Path,
     base: u8,
     state: State,
-    inactive: &mut [bool; 16],
-    direction: &mut [u32; 16],
-    space: &mut [u32; 16],
-    address: &mut [u32; 16],
-    left: &mut [u32; 16],
-    offset: &mut [u32; 16],
+    inactive: &mut [bool; PLACES],
+    direction: &mut [u32; PLACES],
+    space: &mut [u32; PLACES],
+    address: &mut [u32; PLACES],
+    left: &mut [u32; PLACES],
+    offset: &mut [u32; PLACES],
     slave: &mut [u8],
     master: &mut [u8],
     budget: u32,
@@ -265,11 +268,11 @@ fn turn(
 }
 
 // The lowest level with an open request, and 15 at the most.
-fn lowest(left: &[u32; 16]) -> u8
-    ensures { λ r. ⌜ (r ≤ 15) × NoneAsk (now (left .entry)) r ⌝ }
+fn lowest(left: &[u32; PLACES]) -> u8
+    ensures { λ r. ⌜ (r ≤ systemMaster) × NoneAsk (now (left .entry)) r ⌝ }
 {
     let mut level: u8 = 0;
-    while level < 15 {
+    while level < SYSTEM_MASTER {
         if left[level as usize] != 0 {
             return level;
         }
@@ -281,14 +284,14 @@ fn lowest(left: &[u32; 16]) -> u8
 // The paths of the open requests, by level.
 pub(crate) fn paths_of<'a>(
     setup: Setup,
-    direction: &'a [u32; 16],
-    space: &'a [u32; 16],
-    address: &'a [u32; 16],
-    left: &'a [u32; 16],
-    offset: &'a [u32; 16],
-) -> [Path; 16]
+    direction: &'a [u32; PLACES],
+    space: &'a [u32; PLACES],
+    address: &'a [u32; PLACES],
+    left: &'a [u32; PLACES],
+    offset: &'a [u32; PLACES],
+) -> [Path; PLACES]
     ensures { λ r. ⌜ ArePaths setup (requestAt (now (direction .entry)) (now (space .entry)) (now (address .entry)) (now (left .entry))
-        (now (offset .entry))) r 16 ⌝ }
+        (now (offset .entry))) r places ⌝ }
 {
     let none = Path {
         width: 0,
@@ -299,9 +302,9 @@ pub(crate) fn paths_of<'a>(
         allowed: 0,
         start: 0,
     };
-    let mut paths = [none; 16];
+    let mut paths = [none; PLACES];
     let mut level: usize = 0;
-    while level < 16 {
+    while level < PLACES {
         if left[level] == 0 {
             level += 1;
         } else {
@@ -333,7 +336,7 @@ pub(crate) fn run_steps(
 ) -> Ran
     requires { ⌜ Ready setup channel (length (now slave)) (length (now master)) ⌝ }
     requires { ⌜ Shaped channel ⌝ }
-    requires { ⌜ budget ≤ 65535 ⌝ }
+    requires { ⌜ budget ≤ stepsMost ⌝ }
     ensures { λ r. ⌜ r ≡ runFrom setup budget 0 (world channel tally (now (slave .entry)) (now (master .entry))) .result ⌝ }
     ensures { λ r. ⌜ now (slave .exit) ≡ runFrom setup budget 0 (world channel tally (now (slave .entry)) (now (master .entry))) .slave ⌝ }
     ensures { λ r. ⌜ now (master .exit) ≡ runFrom setup budget 0 (world channel tally (now (slave .entry)) (now (master .entry))) .master ⌝ }

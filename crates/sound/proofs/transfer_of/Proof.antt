@@ -1,3 +1,4 @@
+use Rattle.act.specs.Cycle.{pathOf, nextTime}
 use Rattle.sound.specs.Request.{transferOf}
 use borrow.Author.Needs.{needs}
 use Rattle.sound.proofs.transfer_of.Statement.{statement}
@@ -13,7 +14,7 @@ transfer-time-requires : tie.Need-transfer-time-requires
 transfer-time-requires c κs = search needs
 
 returns : tie.Need-returns
-unfolding transferOf
+unfolding transferOf nextTime pathOf
 returns c = rw (c .transfer-time .ensures, c .before .slave-of .ensures, c .before .before .level-of .ensures)
 
 pub transfer-of-spec : {M : Type 1} → statement M

@@ -2,6 +2,7 @@ use mathlib.Core.Path.{sym, ap, _∙_}
 use borrow.Author.Tests.{eq-eqb, ne-eqb, ltb-false}
 use Prim.Native.Nat.{ℕ, _+_}
 use lib.Dec.{ltb}
+use Rattle.basics.specs.Limits.{clockLimit}
 use Rattle.step.proofs.DecideLaws.{from-first, decides-full, decides-grant, decides-rest, decides-late, decides-cycle}
 use borrow.Author.Needs.{needs}
 use Rattle.step.proofs.acts.act_on.Statement.{statement}
@@ -25,7 +26,7 @@ stay-requires c κs = search needs
 returns : tie.Need-returns
 returns c =
     let a = c .before .before .before .before .before .before .before .args in
-    let full = (ap (λ (x : ℕ). ltb 4000000000 (c .before .before .before .before .before .before .before .args .standing .clock + x))
+    let full = (ap (λ (x : ℕ). ltb clockLimit (c .before .before .before .before .before .before .before .args .standing .clock + x))
     (sym (c .before .before .before .before .arbitration-time .ensures)) ∙ sym (c .before .before .before .is-full .ensures)
     ∙ c .before .before .if1 .taken) in
     decides-full _ (a .standing) _ (a .left .now) (a .inactive .now) (c .before .before .before .before .before .enum-told .given .1) _
@@ -35,7 +36,7 @@ choose-requires : tie.Need-choose-requires
 choose-requires c κs = from-first _ _
 
 granted-requires : tie.Need-granted-requires
-granted-requires c κs = ltb-false 4000000000 _ (ap (λ (x : ℕ). ltb 4000000000
+granted-requires c κs = ltb-false clockLimit _ (ap (λ (x : ℕ). ltb clockLimit
     (c .before .before .before .before .before .before .before .args .standing .clock + x))
     (sym (c .before .before .before .before .arbitration-time .ensures)) ∙ sym (c .before .before .before .is-full .ensures)
     ∙ c .before .before .if1 .left)
@@ -83,7 +84,7 @@ decide-cycle-requires c κs =
     let pre = c .before .before .before .before .before .before .before .before .pre in (
       pre .small _ p,
       (
-        ltb-false 4000000000 _ (sym (c .before .before .is-full2 .ensures) ∙ c .before .if3 .left),
+        ltb-false clockLimit _ (sym (c .before .before .is-full2 .ensures) ∙ c .before .if3 .left),
         pre .way _ p
             (ne-eqb _ 0 (c .before .before .before .if2 .left)),
       ),
@@ -94,7 +95,7 @@ returns-4 c =
     let a = c .before .before .before .before .before .before .before .before .before .args in
     decides-grant _ (a .standing) _ (a .left .now) (a .inactive .now)
     (c .before .before .before .before .before .before .before .enum-told .given .1) _ _ _ _
-    (ap (λ (x : ℕ). ltb 4000000000 (c .before .before .before .before .before .before .before .before .before .args .standing .clock + x))
+    (ap (λ (x : ℕ). ltb clockLimit (c .before .before .before .before .before .before .before .before .before .args .standing .clock + x))
     (sym (c .before .before .before .before .before .before .arbitration-time .ensures))
     ∙ sym (c .before .before .before .before .before .is-full .ensures) ∙ c .before .before .before .before .if1 .left)
     (c .before .before .choose .ensures)

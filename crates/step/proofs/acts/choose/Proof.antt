@@ -1,4 +1,4 @@
-use Rattle.step.proofs.SearchLaws.{chosen-active, chosen-quiet, winner-small}
+use Rattle.step.proofs.SearchLaws.{is, chosen-active, chosen-quiet, winner-small}
 use mathlib.Core.Path.{sym, _∙_}
 use native.Mathlib.Omega.{arith}
 use borrow.Author.Needs.{needs}
@@ -10,9 +10,9 @@ winner-from-requires c κs = search needs
 
 add-waits-from : tie.Need-add-waits-from
 add-waits-from c =
-    let w = c .before .winner-from .ensures in
-    let a = c .before .before .before .args in
-    record { fits = omega (arith, w, winner-small (a .left .now) (a .inactive .now)) }
+    let s = c .before .before .before in
+    let w = is (s .args .left .now) (s .args .inactive .now) _ _ _ (s .pre) (c .before .winner-from .ensures) in
+    record { fits = omega (arith, w, winner-small (s .args .left .now) (s .args .inactive .now)) }
 
 waits-from-requires : tie.Need-waits-from-requires
 waits-from-requires c κs = search needs

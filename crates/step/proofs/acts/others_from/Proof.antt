@@ -1,16 +1,17 @@
 use mathlib.Core.Path.{_≡_, refl, sym, _∙_}
 use native.Mathlib.Omega.{arith}
 use Prim.Native.Nat.{_-_}
+use Rattle.basics.specs.Limits.{places}
 use Rattle.step.specs.Machine.{anyFrom, asksBeside, othersFrom}
 use Rattle.step.proofs.SearchLaws.{from-hit, from-miss}
 use Rattle.step.proofs.acts.others_from.Statement.{statement}
 use Rattle.step.proofs.acts.others_from.Tie as tie
 
 abbrev Inv-loop : tie.InvT-loop
-Inv-loop left from owner level₀ level = anyFrom (asksBeside left owner) level (16 - level) ≡ othersFrom left from owner
+Inv-loop left from owner level₀ level = anyFrom (asksBeside left owner) level (places - level) ≡ othersFrom left from owner
 
 abbrev μ-loop : tie.MeasureT-loop
-μ-loop left from owner level₀ level = 16 - level
+μ-loop left from owner level₀ level = places - level
 
 loop-holds : tie.Need-loop-holds Inv-loop μ-loop
 unfolding othersFrom
@@ -29,7 +30,7 @@ returns : tie.Need-returns Inv-loop μ-loop
 unfolding asksBeside
 returns c = let l = c .before .before .before .loop in sym (from-hit (asksBeside
     (c .before .before .before .before .args .left .now) (c .before .before .before .before .args .owner)) (l .level)
-    (16 - l .level) (l .level) (omega arith) (omega arith) (c .if1 .taken)) ∙ l .inv
+    (places - l .level) (l .level) (omega arith) (omega arith) (c .if1 .taken)) ∙ l .inv
 
 add-level : tie.Need-add-level Inv-loop μ-loop
 add-level c = omega arith
@@ -41,11 +42,11 @@ loop-again : tie.Need-loop-again Inv-loop μ-loop
 unfolding asksBeside
 loop-again c = let l = c .before .before .before .loop in sym (from-miss (asksBeside
     (c .before .before .before .before .args .left .now) (c .before .before .before .before .args .owner))
-    (l .level) 16 (omega arith) (c .if1 .left)) ∙ l .inv
+    (l .level) places (omega arith) (c .if1 .left)) ∙ l .inv
 
 returns-2 : tie.Need-returns-2 Inv-loop μ-loop
 unfolding anyFrom
-returns-2 c = let e : 16 - c .before .loop .level ≡ 0 = omega arith in rw e at (c .before .loop .inv)
+returns-2 c = let e : places - c .before .loop .level ≡ 0 = omega arith in rw e at (c .before .loop .inv)
 
 pub others-from-spec : {M : Type 1} → statement M
 others-from-spec =

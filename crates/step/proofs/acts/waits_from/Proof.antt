@@ -1,6 +1,7 @@
 use mathlib.Core.Path.{_≡_, refl, sym, _∙_}
 use native.Mathlib.Omega.{arith}
 use Prim.Native.Nat.{_-_}
+use Rattle.basics.specs.Limits.{places}
 use Rattle.channel.specs.Line.{waits}
 use Rattle.step.specs.Machine.{anyFrom, waitsFrom}
 use Rattle.step.proofs.SearchLaws.{from-hit, from-miss}
@@ -8,10 +9,10 @@ use Rattle.step.proofs.acts.waits_from.Statement.{statement}
 use Rattle.step.proofs.acts.waits_from.Tie as tie
 
 abbrev Inv-loop : tie.InvT-loop
-Inv-loop left inactive from level₀ level = anyFrom (waits left inactive) level (16 - level) ≡ waitsFrom left inactive from
+Inv-loop left inactive from level₀ level = anyFrom (waits left inactive) level (places - level) ≡ waitsFrom left inactive from
 
 abbrev μ-loop : tie.MeasureT-loop
-μ-loop left inactive from level₀ level = 16 - level
+μ-loop left inactive from level₀ level = places - level
 
 loop-holds : tie.Need-loop-holds Inv-loop μ-loop
 unfolding waitsFrom
@@ -31,7 +32,7 @@ unfolding waits
 returns c = let l = c .before .before .before .before .loop in sym (from-hit (waits
     (c .before .before .before .before .before .args .left .now) (c .before .before .before .before .before .args .inactive .now))
     (l .level)
-    (16 - l .level) (l .level) (omega arith) (omega arith) (c .if1 .taken)) ∙ l .inv
+    (places - l .level) (l .level) (omega arith) (omega arith) (c .if1 .taken)) ∙ l .inv
 
 add-level : tie.Need-add-level Inv-loop μ-loop
 add-level c = omega arith
@@ -43,11 +44,11 @@ loop-again : tie.Need-loop-again Inv-loop μ-loop
 unfolding waits
 loop-again c = let l = c .before .before .before .before .loop in sym (from-miss (waits
     (c .before .before .before .before .before .args .left .now) (c .before .before .before .before .before .args .inactive .now))
-    (l .level) 16 (omega arith) (c .if1 .left)) ∙ l .inv
+    (l .level) places (omega arith) (c .if1 .left)) ∙ l .inv
 
 returns-2 : tie.Need-returns-2 Inv-loop μ-loop
 unfolding anyFrom
-returns-2 c = let e : 16 - c .before .loop .level ≡ 0 = omega arith in rw e at (c .before .loop .inv)
+returns-2 c = let e : places - c .before .loop .level ≡ 0 = omega arith in rw e at (c .before .loop .inv)
 
 pub waits-from-spec : {M : Type 1} → statement M
 waits-from-spec =

@@ -3,6 +3,7 @@ use native.Mathlib.Omega.{arith}
 use borrow.Author.Tests.{ltb-true, ltb-false, not-true, not-false}
 use Prim.Native.Nat.{_+_, _-_, _≤_}
 use lib.ListN.{length}
+use Rattle.basics.specs.Limits.{clockLimit}
 use Rattle.act.specs.Cycle.{isKept}
 use Rattle.step.specs.Step.{Roomy}
 use Rattle.step.specs.Turns.{Held, held}
@@ -15,7 +16,7 @@ use Rattle.step.proofs.turns.hold_channel.Tie as tie
 abbrev Inv-loop : tie.InvT-loop
 Inv-loop path asked slave₀ master₀ budget now₀ slave master now =
     Roomy path (now .request) (length slave) (length master)
-    × (now .clock ≤ 4000000000)
+    × (now .clock ≤ clockLimit)
     × (held path asked (budget - now .done) now slave master ≡ held path asked (budget - now₀ .done) now₀ slave₀ master₀)
     × (length slave ≡ length slave₀)
     × (length master ≡ length master₀)
@@ -46,7 +47,7 @@ returns : tie.Need-returns Inv-loop μ-loop
 returns c =
     let five = c .before .before .before .before .before in
     let l = five .loop in
-    let full = ltb-true 4000000000 _ (sym (c .before .before .is-full .ensures) ∙ c .before .if2 .taken) in
+    let full = ltb-true clockLimit _ (sym (c .before .before .is-full .ensures) ∙ c .before .if2 .taken) in
     let e = sym (held-full _ _ _ (l .now) (l .slave) (l .master) (c .before .before .before .if1 .taken) full) ∙ l .inv .2 in
     (c .fill .ensures ∙ ap (λ (x : Held). x .tenure) e, (ap (λ (x : Held). x .slave) e, ap (λ (x : Held). x .master) e))
 
@@ -67,7 +68,7 @@ cycle-on-requires c κs =
     let five = c .before .before .before .before .before in
     let ten = five .before .before .before .before .before in
     let fifteen = ten .before .before .before .before .before in
-    let room = ltb-false 4000000000 _ (sym (ten .before .is-full .ensures) ∙ ten .if2 .left) in (
+    let room = ltb-false clockLimit _ (sym (ten .before .is-full .ensures) ∙ ten .if2 .left) in (
       ten .before .before .before .before .loop .inv .0 .way,
       (
         five .before .before .before .bytes-of .ensures,
@@ -101,7 +102,7 @@ returns-2 c =
     let what = ten .carry-of .ensures in
     let k = five .before .before .carry .ensures in
     let t = c .before .before .cycle-on .ensures in
-    let room = ltb-false 4000000000 _ (sym (ten .before .before .before .before .is-full .ensures)
+    let room = ltb-false clockLimit _ (sym (ten .before .before .before .before .is-full .ensures)
     ∙ ten .before .before .before .if2 .left) in
     let f = sym (ap (λ (x : Tenure). isKept (x .ending)) t) ∙ sym (c .before .is-kept .ensures)
     ∙ not-true (c .before .is-kept .result) (c .if3 .taken) in
@@ -130,7 +131,7 @@ loop-again c =
     let t = c .before .before .cycle-on .ensures in
     let a = twenty .args in
     let facts = cycled-facts (a .path) (a .asked) (l .now) in
-    let room = ltb-false 4000000000 (l .now .clock + a .path .time) (sym (ten .before .before .before .before .is-full .ensures)
+    let room = ltb-false clockLimit (l .now .clock + a .path .time) (sym (ten .before .before .before .before .is-full .ensures)
     ∙ ten .before .before .before .if2 .left) in
     let f = sym (ap (λ (x : Tenure). isKept (x .ending)) t) ∙ sym (c .before .is-kept .ensures)
     ∙ not-false (c .before .is-kept .result) (c .if3 .left) in

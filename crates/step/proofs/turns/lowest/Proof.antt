@@ -1,15 +1,16 @@
 use native.Mathlib.Omega.{arith}
 use Prim.Native.Nat.{_-_, _≤_}
+use Rattle.basics.specs.Limits.{systemMaster}
 use Rattle.step.specs.Machine.{NoneAsk}
 use Rattle.step.proofs.SearchLaws.{none-more}
 use Rattle.step.proofs.turns.lowest.Statement.{statement}
 use Rattle.step.proofs.turns.lowest.Tie as tie
 
 abbrev Inv-loop : tie.InvT-loop
-Inv-loop left level₀ level = (level ≤ 15) × NoneAsk left level
+Inv-loop left level₀ level = (level ≤ systemMaster) × NoneAsk left level
 
 abbrev μ-loop : tie.MeasureT-loop
-μ-loop left level₀ level = 15 - level
+μ-loop left level₀ level = systemMaster - level
 
 loop-holds : tie.Need-loop-holds Inv-loop μ-loop
 loop-holds c = (omega arith, λ l h. absurd (omega (arith, h)))

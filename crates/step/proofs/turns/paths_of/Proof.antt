@@ -2,6 +2,7 @@ use mathlib.Core.Path.{_≡_, refl, _∙_}
 use native.Mathlib.Omega.{arith}
 use Prim.Native.Nat.{_-_, _≤_}
 use lib.ListN.{length, length-set}
+use Rattle.basics.specs.Limits.{places}
 use Rattle.sound.specs.Tables.{requestAt}
 use Rattle.step.specs.Turns.{ArePaths}
 use Rattle.step.proofs.PathLaws.{path-more, path-none}
@@ -10,10 +11,10 @@ use Rattle.step.proofs.turns.paths_of.Tie as tie
 
 abbrev Inv-loop : tie.InvT-loop
 Inv-loop setup direction space address left offset paths₀ level₀ paths level =
-    (level ≤ 16) × (length paths ≡ 16) × ArePaths setup (requestAt direction space address left offset) paths level
+    (level ≤ places) × (length paths ≡ places) × ArePaths setup (requestAt direction space address left offset) paths level
 
 abbrev μ-loop : tie.MeasureT-loop
-μ-loop setup direction space address left offset paths₀ level₀ paths level = 16 - level
+μ-loop setup direction space address left offset paths₀ level₀ paths level = places - level
 
 loop-holds : tie.Need-loop-holds Inv-loop μ-loop
 loop-holds c = (omega arith, refl, λ l n a. absurd (omega (arith, n)))
@@ -66,7 +67,7 @@ loop-again-2 c =
     )
 
 returns : tie.Need-returns Inv-loop μ-loop
-returns c = let e : c .before .loop .level ≡ 16 = omega arith in rw e at (c .before .loop .inv .2)
+returns c = let e : c .before .loop .level ≡ places = omega arith in rw e at (c .before .loop .inv .2)
 
 pub paths-of-spec : {M : Type 1} → statement M
 paths-of-spec =

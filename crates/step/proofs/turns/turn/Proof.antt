@@ -1,4 +1,5 @@
 use lib.ListN.{getD}
+use Rattle.basics.specs.Limits.{clockLimit}
 use Rattle.channel.specs.declared.Request.{Request}
 use mathlib.Core.Path.{_≡_, refl, sym, ap, _∙_}
 use borrow.Author.Tests.{ne-eqb, ltb-false}
@@ -23,7 +24,7 @@ returns : tie.Need-returns
 returns c =
     let five = c .before .before .before .before .before in
     let a = five .before .before .before .args in
-    let full = (ap (λ (x : ℕ). ltb 4000000000 (five .before .before .before .args .state .standing .clock + x))
+    let full = (ap (λ (x : ℕ). ltb clockLimit (five .before .before .before .args .state .standing .clock + x))
     (sym (c .before .before .arbitration-time .ensures)) ∙ sym (c .before .is-full .ensures) ∙ c .if1 .taken) in (
       turn-full (a .path) (a .budget) (a .state) (a .inactive .now) (a .direction .now) (a .space .now) (a .address .now) (a .left .now)
           (a .offset .now) (a .slave .now) (a .master .now) (c .before .before .before .enum-told .given .1)
@@ -42,7 +43,7 @@ granted-requires : tie.Need-granted-requires
 granted-requires c κs =
     let five = c .before .before .before .before .before in
     let ten = five .before .before .before .before .before in
-    ltb-false 4000000000 _ (ap (λ (x : ℕ). ltb 4000000000 (ten .before .args .state .standing .clock + x))
+    ltb-false clockLimit _ (ap (λ (x : ℕ). ltb clockLimit (ten .before .args .state .standing .clock + x))
     (sym (five .arbitration-time .ensures)) ∙ sym (c .before .before .before .before .is-full .ensures)
     ∙ c .before .before .before .if1 .left)
 
@@ -100,7 +101,7 @@ returns-3 c =
     let ten = five .before .before .before .before .before in
     let a = ten .before .before .before .args in
     let i = c .before .before .choose .ensures in
-    let room = (ap (λ (x : ℕ). ltb 4000000000 (ten .before .before .before .args .state .standing .clock + x))
+    let room = (ap (λ (x : ℕ). ltb clockLimit (ten .before .before .before .args .state .standing .clock + x))
     (sym (five .before .before .arbitration-time .ensures)) ∙ sym (five .before .is-full .ensures) ∙ five .if1 .left) in (
       turn-grant (a .path) (a .budget) (a .state) (a .inactive .now) (a .direction .now) (a .space .now) (a .address .now) (a .left .now)
           (a .offset .now) (a .slave .now) (a .master .now) (five .before .before .before .enum-told .given .1) _ _ _ _ _ room i

@@ -1,23 +1,23 @@
-use Prim.Native.Nat.{ℕ, _-_, _≤_}
+use Prim.Native.Nat.{ℕ, _-_}
 use Rattle.basics.proofs.ScanLaws.{first-hit, first-miss, first-none}
 use Rattle.basics.specs.Limits.{places, systemMaster}
 use Rattle.basics.specs.Scan.{firstFrom}
-use Rattle.channel.specs.Line.{waits, winner}
+use Rattle.channel.specs.Line.{waits, winnerFrom}
 use mathlib.Core.Path.{_≡_, refl, sym, ap, _∙_}
 use native.Mathlib.Omega.{arith}
-use Rattle.channel.proofs.winner_of.Statement.{statement}
-use Rattle.channel.proofs.winner_of.Tie as tie
+use Rattle.channel.proofs.winner_from.Statement.{statement}
+use Rattle.channel.proofs.winner_from.Tie as tie
 
 abbrev Inv-loop : tie.InvT-loop
-Inv-loop left inactive level₀ level =
-    (level ≤ places) × (firstFrom (waits left inactive) level (places - level) systemMaster ≡ winner left inactive)
+Inv-loop left inactive low level₀ level =
+    firstFrom (waits left inactive) level (places - level) systemMaster ≡ winnerFrom left inactive low
 
 abbrev μ-loop : tie.MeasureT-loop
-μ-loop left inactive level₀ level = places - level
+μ-loop left inactive low level₀ level = places - level
 
 loop-holds : tie.Need-loop-holds Inv-loop μ-loop
-unfolding winner
-loop-holds c = (omega arith, refl)
+unfolding winnerFrom
+loop-holds c = refl
 
 cast-at : tie.Need-cast-at Inv-loop μ-loop
 cast-at c = omega arith
@@ -35,7 +35,7 @@ returns : tie.Need-returns Inv-loop μ-loop
 unfolding waits
 returns c =
     let l = c .before .before .before .before .loop in
-    sym (first-hit _ (l .level) places systemMaster (omega arith) (c .if1 .taken)) ∙ l .inv .1
+    sym (first-hit _ (l .level) places systemMaster (omega arith) (c .if1 .taken)) ∙ l .inv
 
 add-level : tie.Need-add-level Inv-loop μ-loop
 add-level c = omega arith
@@ -47,13 +47,13 @@ loop-again : tie.Need-loop-again Inv-loop μ-loop
 unfolding waits
 loop-again c =
     let l = c .before .before .before .before .loop in
-    (omega arith, sym (first-miss _ (l .level) places systemMaster (omega arith) (c .if1 .left)) ∙ l .inv .1)
+    sym (first-miss _ (l .level) places systemMaster (omega arith) (c .if1 .left)) ∙ l .inv
 
 returns-2 : tie.Need-returns-2 Inv-loop μ-loop
-returns-2 c = sym (first-none _ (c .before .loop .level) places systemMaster (omega arith)) ∙ c .before .loop .inv .1
+returns-2 c = sym (first-none _ (c .before .loop .level) places systemMaster (omega arith)) ∙ c .before .loop .inv
 
-pub winner-of-spec : {M : Type 1} → statement M
-winner-of-spec =
+pub winner-from-spec : {M : Type 1} → statement M
+winner-from-spec =
     tie.close
     (tie.spec
     Inv-loop
