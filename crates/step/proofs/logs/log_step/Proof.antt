@@ -1,4 +1,3 @@
-use mathlib.Core.Path.{_∙_}
 use native.Mathlib.Omega.{arith}
 use Rattle.step.proofs.LogLaws.{acts-at, room-at, log-done, log-full}
 use borrow.Author.Needs.{needs}
