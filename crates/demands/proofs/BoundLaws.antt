@@ -5,7 +5,7 @@ use mathlib.Core.Path.{_≡_, refl, sym, ap, _∙_}
 use mathlib.Core.Bool.{Bool, true, false}
 use mathlib.Core.List.{List, [], _∷_}
 use native.Mathlib.Omega.{arith}
-use borrow.Author.Tests.{leb-true, eqb-true}
+use borrow.Author.Tests.{leb-true, eqb-true, eq-eqb}
 use lib.ListN.{length, getD}
 use lib.Dec.{eqb}
 use Rattle.basics.proofs.Tests.{by-test}
@@ -41,13 +41,9 @@ use Rattle.step.specs.Step.{Ready, advancedBy, stepOf}
 use Rattle.step.proofs.PlanLaws.{says, plan-ready}
 use Rattle.step.proofs.KeepLaws.{pathAt, nextCycle, clockAt, takes}
 use Rattle.demands.specs.History.{Moment, Act, posts, steps, next, after, Start}
-use Rattle.demands.specs.Waiting.{First, nobody, since, noted, firstAfter, firstOver}
-use Rattle.demands.proofs.KeptLaws.{next-kept, always}
-
--- an asked time, as the history has it
-abbrev pub firstOf : Asked → First
-firstOf Never = nobody
-firstOf (At t) = since t
+use Rattle.demands.specs.Waiting.{First, nobody, since, noted, firstAfter, firstIn, firstOf, firstOver}
+use Rattle.demands.specs.Demand.{Bounded}
+use Rattle.demands.proofs.KeptLaws.{by-ready, next-kept, always}
 
 -- on a sound channel the line is active exactly when another level has an open request
 pub line-others : (setup : Setup) (ch : Channel) → Shaped ch → Sound setup ch → line ch ≡ othersAsk ch
@@ -63,9 +59,9 @@ asked-within setup ch o t i =
 
 -- what the line rule makes of the asked time is what the history notes of the channel after it
 now-first : (p : Phase) (a : Asked) (active : Bool) (clock : ℕ) (ch : Channel) → active ≡ othersAsk ch → clock ≡ ch .clock
-    → firstOf (askedNow p a active clock) ≡ noted p (firstOf a) ch
+    → firstIn p (askedNow p a active clock) ≡ noted p (firstIn p a) ch
 now-first Arbitrating a active clock ch e f = refl
-now-first (Granted o) (At t) active clock ch e f = refl
+now-first (Granted o) (At t) active clock ch e f = rw (eq-eqb o o refl)
 now-first (Granted o) Never active clock ch e f = rw (← e, ← f) (by-test active (λ t. rw t) (λ n. rw n))
 
 cleared-line : (ch : Channel) → line (cleared ch) ≡ othersAsk ch
@@ -76,62 +72,62 @@ rule-others : (ch : Channel) → othersAsk (lineRule ch) ≡ othersAsk ch
 unfolding othersAsk timed cleared
 rule-others ch = refl
 
-rule-first : (ch : Channel) → firstOf (lineRule ch .asked) ≡ firstAfter (firstOf (ch .asked)) (lineRule ch)
+rule-first : (ch : Channel) → firstOf (lineRule ch) ≡ firstAfter (firstOf ch) (lineRule ch)
 unfolding timed cleared
 rule-first ch =
     now-first (ch .phase) (ch .asked) (line (cleared ch)) (ch .clock) (lineRule ch) (cleared-line ch ∙ sym (rule-others ch)) refl
 
 -- where nothing changes, nothing is noted
 same-noted : (setup : Setup) (ch : Channel) → Shaped ch → Sound setup ch → (p : Phase) (a : Asked) → ch .phase ≡ p → ch .asked ≡ a
-    → firstOf a ≡ noted p (firstOf a) ch
-same-noted setup ch k s Arbitrating a e f = ap firstOf (sym f ∙ s .settled .unasked e)
-same-noted setup ch k s (Granted o) (At t) e f = refl
+    → firstIn p a ≡ noted p (firstIn p a) ch
+same-noted setup ch k s Arbitrating a e f = refl
+same-noted setup ch k s (Granted o) (At t) e f = rw (eq-eqb o o refl)
 same-noted setup ch k s (Granted o) Never e f = rw (sym (line-others setup ch k s) ∙ s .quiet o e f)
 
-same-first : (setup : Setup) (ch : Channel) → Shaped ch → Sound setup ch → firstOf (ch .asked) ≡ firstAfter (firstOf (ch .asked)) ch
+same-first : (setup : Setup) (ch : Channel) → Shaped ch → Sound setup ch → firstOf ch ≡ firstAfter (firstOf ch) ch
 same-first setup ch k s = same-noted setup ch k s (ch .phase) (ch .asked) refl refl
 
 -- a release: whatever was noted is forgotten
-freed-first : (ch : Channel) (marks : List Bool) (f : First) → firstOf (lineRule (freed ch marks) .asked) ≡ firstAfter f (lineRule (freed ch marks))
+freed-first : (ch : Channel) (marks : List Bool) (f : First) → firstOf (lineRule (freed ch marks)) ≡ firstAfter f (lineRule (freed ch marks))
 unfolding timed cleared freed
 freed-first ch marks f = refl
 
-moved-asked : (ch : Channel) (o : ℕ) (c : Cycle) → movedOn ch o c .asked ≡ ch .asked
+moved-first : (ch : Channel) (o : ℕ) (c : Cycle) → firstOf (movedOn ch o c) ≡ firstOf ch
 unfolding movedOn withRequest clocked
-moved-asked ch o c = refl
+moved-first ch o c = refl
 
-post-first : (ch : Channel) (p : Order) → firstOf (posted ch p .asked) ≡ firstAfter (firstOf (ch .asked)) (posted ch p)
+post-first : (ch : Channel) (p : Order) → firstOf (posted ch p) ≡ firstAfter (firstOf ch) (posted ch p)
 unfolding posted withRequest
 post-first ch p = rule-first (withRequest ch (p .level) (requestIn p))
 
 module _ (setup : Setup) (ch : Channel) (k : Shaped ch) (s : Sound setup ch) where
-  grant-first : (w : ℕ) → actPlan setup ch ≡ plan.Grant w
-      → firstOf (advancedBy setup ch (plan.Grant w) .channel .asked) ≡ firstAfter (firstOf (ch .asked)) (advancedBy setup ch (plan.Grant w) .channel)
+  -- what the history notes after this plan's step
+  abbrev Notes : Plan → Type 0
+  Notes p = firstOf (advancedBy setup ch p .channel) ≡ firstAfter (firstOf ch) (advancedBy setup ch p .channel)
+
+  grant-first : (w : ℕ) → actPlan setup ch ≡ plan.Grant w → Notes (plan.Grant w)
   unfolding grantTurn granted
   grant-first w e =
       let p = says setup ch (plan.Grant w) e in
-      rule-first (granted ch w) ∙ ap (λ (a : Asked). firstAfter (firstOf a) (lineRule (granted ch w))) (sym (s .settled .unasked (p .0)))
+      rule-first (granted ch w) ∙ ap (λ (x : Phase). firstAfter (firstIn x (ch .asked)) (lineRule (granted ch w))) (sym (p .0))
 
-  leave-first : (o : ℕ)
-      → firstOf (advancedBy setup ch (plan.Leave o) .channel .asked) ≡ firstAfter (firstOf (ch .asked)) (advancedBy setup ch (plan.Leave o) .channel)
+  leave-first : (o : ℕ) → Notes (plan.Leave o)
   unfolding leaveTurn
-  leave-first o = freed-first ch (ch .inactive) (firstOf (ch .asked))
+  leave-first o = freed-first ch (ch .inactive) (firstOf ch)
 
-  ended-first : (ending : Ending) (x : Channel) (o : ℕ) → x .asked ≡ ch .asked
-      → firstOf (lineRule (endedBy ending x o) .asked) ≡ firstAfter (firstOf (ch .asked)) (lineRule (endedBy ending x o))
-  ended-first Kept x o e = rule-first x ∙ ap (λ (a : Asked). firstAfter (firstOf a) (lineRule x)) e
-  ended-first (Released h) x o e = freed-first x (x .inactive) (firstOf (ch .asked))
-  ended-first (Marked h) x o e = freed-first x (markedAt (x .inactive) o) (firstOf (ch .asked))
+  ended-first : (ending : Ending) (x : Channel) (o : ℕ) → firstOf x ≡ firstOf ch
+      → firstOf (lineRule (endedBy ending x o)) ≡ firstAfter (firstOf ch) (lineRule (endedBy ending x o))
+  ended-first Kept x o e = rule-first x ∙ ap (λ (f : First). firstAfter f (lineRule x)) e
+  ended-first (Released h) x o e = freed-first x (x .inactive) (firstOf ch)
+  ended-first (Marked h) x o e = freed-first x (markedAt (x .inactive) o) (firstOf ch)
 
-  cycle-first : (o : ℕ)
-      → firstOf (advancedBy setup ch (plan.Cycle o) .channel .asked) ≡ firstAfter (firstOf (ch .asked)) (advancedBy setup ch (plan.Cycle o) .channel)
+  cycle-first : (o : ℕ) → Notes (plan.Cycle o)
   unfolding cycleTurn
   cycle-first o =
       let c = nextCycle setup ch o in
-      ended-first (endingAt (pathAt setup ch o) ch c) (movedOn ch o c) o (moved-asked ch o c)
+      ended-first (endingAt (pathAt setup ch o) ch c) (movedOn ch o c) o (moved-first ch o c)
 
-  act-first : (p : Plan) → actPlan setup ch ≡ p
-      → firstOf (advancedBy setup ch p .channel .asked) ≡ firstAfter (firstOf (ch .asked)) (advancedBy setup ch p .channel)
+  act-first : (p : Plan) → actPlan setup ch ≡ p → Notes p
   act-first plan.Idle e = same-first setup ch k s
   act-first (plan.Refused why) e = same-first setup ch k s
   act-first (plan.Grant w) e = grant-first w e
@@ -165,7 +161,7 @@ cycle-clock setup ch o =
 
 -- over a history: the asked time is the first clock since the grant at which another level had an open request
 next-first : (setup : Setup) (m : Moment) (a : Act) → Start setup m
-    → firstOf (next setup m a .channel .asked) ≡ firstAfter (firstOf (m .channel .asked)) (next setup m a .channel)
+    → firstOf (next setup m a .channel) ≡ firstAfter (firstOf (m .channel)) (next setup m a .channel)
 unfolding postOf posted stepOf
 next-first setup m (posts p) s =
     by-test (isAccepted (postVerdict setup (m .channel) p))
@@ -173,21 +169,34 @@ next-first setup m (posts p) s =
     (λ f. rw f (same-first setup (m .channel) (s .shaped) (sound-is setup (m .channel) (s .sound))))
 next-first setup m steps s =
     let ch = m .channel in
-    let r : Ready setup ch (length (m .slave)) (length (m .master)) = record { framed = s .framed; sound = s .sound; slave = s .slave; master = s .master } in
-    rw (plan-ready setup ch (length (m .slave)) (length (m .master)) r)
-    (act-first setup ch (s .shaped) (sound-is setup ch (s .sound)) (actPlan setup ch) refl)
+    let sound = sound-is setup ch (s .sound) in
+    by-ready setup m
+    (λ r. rw (plan-ready setup ch (length (m .slave)) (length (m .master)) r) (act-first setup ch (s .shaped) sound (actPlan setup ch) refl))
+    (λ why e. rw e (same-first setup ch (s .shaped) sound))
 
 first-always : (setup : Setup) (m : Moment) (acts : List Act) → Start setup m
-    → firstOf (after setup m acts .channel .asked) ≡ firstOver setup m (firstOf (m .channel .asked)) acts
+    → firstOf (after setup m acts .channel) ≡ firstOver setup m (firstOf (m .channel)) acts
 first-always setup m [] s = refl
 first-always setup m (a ∷ acts) s =
     first-always setup (next setup m a) acts (next-kept setup m a s)
     ∙ ap (λ (f : First). firstOver setup (next setup m a) f acts) (next-first setup m a s)
 
 -- the clock after one more act, where the owner was asked at t: a cycle takes no longer than the transfer that it belongs to
-since-asked : (a : Asked) (t : ℕ) → firstOf a ≡ since t → a ≡ At t
-since-asked Never t e = let z : _≡_ {A = ℕ} 0 1 = cc in absurd (omega arith)
-since-asked (At u) t e = ap At (cc)
+nobody-not : {A : Type 0} {o t : ℕ} → nobody ≡ since o t → A
+nobody-not e = let z : _≡_ {A = ℕ} 0 1 = cc in absurd (omega arith)
+
+abbrev ownerNoted : First → ℕ
+ownerNoted nobody = 0
+ownerNoted (since o t) = o
+
+abbrev clockNoted : First → ℕ
+clockNoted nobody = 0
+clockNoted (since o t) = t
+
+since-asked : (p : Phase) (a : Asked) (o t : ℕ) → firstIn p a ≡ since o t → (p ≡ Granted o) × (a ≡ At t)
+since-asked Arbitrating a o t e = nobody-not e
+since-asked (Granted q) Never o t e = nobody-not e
+since-asked (Granted q) (At u) o t e = (ap (λ (f : First). Granted (ownerNoted f)) e, ap (λ (f : First). At (clockNoted f)) e)
 
 cycle-within : (setup : Setup) (ch : Channel) (o t : ℕ) (c : Cycle) → Takes setup o (requestOf ch o) c → InTime setup ch o t
     → eqb (getD (ch .left) o 0) 0 ≡ false → ch .clock + c .time ≤ t + allowance setup
@@ -218,37 +227,19 @@ next-within setup m (posts p) o t s f i =
     (λ b. rw b (asked-within setup (m .channel) o t i))
 next-within setup m steps o t s f i =
     let ch = m .channel in
-    let r : Ready setup ch (length (m .slave)) (length (m .master)) = record { framed = s .framed; sound = s .sound; slave = s .slave; master = s .master } in
+    by-ready setup m
+    (λ r.
     rw (plan-ready setup ch (length (m .slave)) (length (m .master)) r)
-    (act-within setup (s .framed) ch (s .shaped) (sound-is setup ch (s .sound)) o t (actPlan setup ch) refl f i)
+    (act-within setup (r .framed) ch (s .shaped) (sound-is setup ch (s .sound)) o t (actPlan setup ch) refl f i))
+    (λ why e. rw e (asked-within setup ch o t i))
 
--- Demand 3, the bound. From any start, after any posts and steps: while a level owns the channel and another has had an open request since the clock
--- t, first since the grant, the clock is at most the allowance past t; and so it is after one more act, at the release too.
-pub record Bounded (setup : Setup) (m : Moment) (t : ℕ) : Type 0 where
-  pub here : m .channel .clock ≤ t + allowance setup
-  pub onward : (a : Act) → next setup m a .channel .clock ≤ t + allowance setup
-
+-- Demand 3, the bound. From any channel that isn't unsound, after any posts and steps: while a level owns the channel and another has had an open request
+-- since the clock t, first since the grant, the clock is at most the allowance past t; and so it is after one more act, at the release too.
 pub hold-bounded : (setup : Setup) (m : Moment) (acts : List Act) (o t : ℕ) → Start setup m
-    → after setup m acts .channel .phase ≡ Granted o → firstOver setup m (firstOf (m .channel .asked)) acts ≡ since t
-    → Bounded setup (after setup m acts) t
-hold-bounded setup m acts o t s f e =
+    → firstOver setup m (firstOf (m .channel)) acts ≡ since o t → Bounded setup (after setup m acts) o t
+hold-bounded setup m acts o t s e =
     let n = after setup m acts in
     let k = always setup m acts s in
-    let a = since-asked (n .channel .asked) t (first-always setup m acts s ∙ e) in
-    let i = sound-is setup (n .channel) (k .sound) .settled .asked o t f a in
-    record { here = asked-within setup (n .channel) o t i; onward = λ b. next-within setup n b o t k f i }
-
--- the same after set-up, with the paper's number: 7,800 ns
-pub fresh-start : (setup : Setup) (slave master : List ℕ) → isFramed setup ≡ true → length slave ≡ slaveStoreLength (setup .slaves)
-    → length master ≡ setup .master → Start setup (record { channel = fresh; slave = slave; master = master })
-fresh-start setup slave master f n k =
-    record { framed = f; sound = sound-by setup fresh (fresh-sound setup); shaped = fresh-shaped; slave = n; master = k }
-
-pub bound : (setup : Setup) (slave master : List ℕ) (acts : List Act) (o t : ℕ) → isFramed setup ≡ true
-    → length slave ≡ slaveStoreLength (setup .slaves) → length master ≡ setup .master
-    → after setup (record { channel = fresh; slave = slave; master = master }) acts .channel .phase ≡ Granted o
-    → firstOver setup (record { channel = fresh; slave = slave; master = master }) nobody acts ≡ since t
-    → (a : Act) → next setup (after setup (record { channel = fresh; slave = slave; master = master }) acts) a .channel .clock ≤ t + 7800
-unfolding allowance
-bound setup slave master acts o t f n k g e a =
-    hold-bounded setup (record { channel = fresh; slave = slave; master = master }) acts o t (fresh-start setup slave master f n k) g e .onward a
+    let a = since-asked (n .channel .phase) (n .channel .asked) o t (first-always setup m acts s ∙ e) in
+    let i = sound-is setup (n .channel) (k .sound) .settled .asked o t (a .0) (a .1) in
+    record { owner = a .0; here = asked-within setup (n .channel) o t i; onward = λ b. next-within setup n b o t k (a .0) i }

@@ -5,4 +5,6 @@ pub mod TransferLaws
 pub mod BoundLaws
 pub mod OrderLaws
 pub mod StoreLaws
-pub mod SetUpLaws
+pub mod CallLaws
+pub mod TallyLaws
+pub mod DemandLaws

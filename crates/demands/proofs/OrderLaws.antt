@@ -52,7 +52,7 @@ use Rattle.demands.specs.Bytes.{
   moved,
   logged,
 }
-use Rattle.demands.proofs.KeptLaws.{next-kept}
+use Rattle.demands.proofs.KeptLaws.{by-ready, next-shaped}
 use Rattle.demands.proofs.TransferLaws.{rule-request}
 
 -- bytes in two parts
@@ -135,16 +135,18 @@ module _ (setup : Setup) (framed : isFramed setup ≡ true) (ch : Channel) (shap
   act-flows (plan.Leave o) e = still (requestOf ch l) _ (rule-request (freed ch (ch .inactive)) l)
   act-flows (plan.Cycle o) e = cycle-flows o e
 
-step-flows : (setup : Setup) (m : Moment) (l : ℕ) → Start setup m
+step-flows : (setup : Setup) (m : Moment) (l : ℕ) → Shaped (m .channel)
     → Flows (openBytes m l) []
     (movedFor (m .channel) l (stepOf setup (m .channel) noTally (m .slave) (m .master) .answer))
     (openBytes (next setup m steps) l)
 unfolding stepOf
-step-flows setup m l s =
+step-flows setup m l k =
     let ch = m .channel in
-    let r : Ready setup ch (length (m .slave)) (length (m .master)) = record { framed = s .framed; sound = s .sound; slave = s .slave; master = s .master } in
+    by-ready setup m
+    (λ r.
     rw (plan-ready setup ch (length (m .slave)) (length (m .master)) r)
-    (act-flows setup (s .framed) ch (s .shaped) (sound-is setup ch (s .sound)) l (actPlan setup ch) refl)
+    (act-flows setup (r .framed) ch k (sound-is setup ch (r .sound)) l (actPlan setup ch) refl))
+    (λ why e. rw e (still (requestOf ch l) (requestOf ch l) refl))
 
 -- an accepted post: its level had nothing open, and the others are as they were
 posted-flows : (setup : Setup) (ch : Channel) (p : Order) (l : ℕ) → Shaped ch → Allowed setup ch p
@@ -163,12 +165,12 @@ posted-flows setup ch p l shaped ok =
     let n = eqb-false (p .level) l f in
     rw f (still (requestOf ch l) _ (r ∙ request-other ch (p .level) l (requestIn p) (λ c. n (sym c)))))
 
-post-flows : (setup : Setup) (m : Moment) (l : ℕ) (p : Order) → Start setup m
+post-flows : (setup : Setup) (m : Moment) (l : ℕ) (p : Order) → Shaped (m .channel)
     → Flows (openBytes m l) (askedBy setup m l (posts p)) [] (openBytes (next setup m (posts p)) l)
 unfolding postOf
-post-flows setup m l p s =
+post-flows setup m l p k =
     by-test (isAccepted (postVerdict setup (m .channel) p))
-    (λ t. rw t (posted-flows setup (m .channel) p l (s .shaped) (allowed setup (m .channel) p (accepted-is _ t))))
+    (λ t. rw t (posted-flows setup (m .channel) p l k (allowed setup (m .channel) p (accepted-is _ t))))
     (λ f. rw f (still (requestOf (m .channel) l) (requestOf (m .channel) l) refl))
 
 -- what comes after an act goes behind what it moved
@@ -181,20 +183,20 @@ joined before new gone mid later went last e f =
     ∙ ap (λ (x : List _). gone ++ x) f
     ∙ sym (append-assoc gone went last)
 
-act-flows-on : (setup : Setup) (m : Moment) (l : ℕ) (a : Act) → Start setup m
+act-flows-on : (setup : Setup) (m : Moment) (l : ℕ) (a : Act) → Shaped (m .channel)
     → Flows (openBytes m l) (askedBy setup m l a) (movedBy setup m l a) (openBytes (next setup m a) l)
-act-flows-on setup m l (posts p) s = post-flows setup m l p s
-act-flows-on setup m l steps s = step-flows setup m l s
+act-flows-on setup m l (posts p) k = post-flows setup m l p k
+act-flows-on setup m l steps k = step-flows setup m l k
 
 -- Demand 3, the bytes. From any start, after any posts and steps, of every level: the bytes of all its cycles in log order, followed by its open ones,
 -- are exactly those that were open at the start, followed by those of its accepted posts in posting order.
-pub in-order : (setup : Setup) (m : Moment) (l : ℕ) (acts : List Act) → Start setup m
+pub in-order : (setup : Setup) (m : Moment) (l : ℕ) (acts : List Act) → Shaped (m .channel)
     → openBytes m l ++ asked setup m l acts ≡ moved setup m l acts ++ openBytes (after setup m acts) l
-in-order setup m l [] s = append-nil (openBytes m l)
-in-order setup m l (a ∷ acts) s =
+in-order setup m l [] k = append-nil (openBytes m l)
+in-order setup m l (a ∷ acts) k =
     joined (openBytes m l) (askedBy setup m l a) (movedBy setup m l a) (openBytes (next setup m a) l) (asked setup (next setup m a) l acts)
-    (moved setup (next setup m a) l acts) (openBytes (after setup (next setup m a) acts) l) (act-flows-on setup m l a s)
-    (in-order setup (next setup m a) l acts (next-kept setup m a s))
+    (moved setup (next setup m a) l acts) (openBytes (after setup (next setup m a) acts) l) (act-flows-on setup m l a k)
+    (in-order setup (next setup m a) l acts (next-shaped setup m a k))
 
 -- the log alone shows how many bytes were moved
 answer-logged : (ch : Channel) (l : ℕ) (answer : StepAnswer) (log : List Entry)
@@ -215,11 +217,11 @@ log-counts setup m l (steps ∷ acts) =
     ∙ sym (length-append (movedBy setup m l steps) (moved setup (next setup m steps) l acts))
 
 -- "per level, bytes asked = bytes moved + bytes open", with what was open at the start counted as asked, and the bytes moved added up from the log
-pub sums : (setup : Setup) (m : Moment) (l : ℕ) (acts : List Act) → Start setup m
+pub sums : (setup : Setup) (m : Moment) (l : ℕ) (acts : List Act) → Shaped (m .channel)
     → requestOf (m .channel) l .left + length (asked setup m l acts)
     ≡ logged l (logOf setup m acts) + requestOf (after setup m acts .channel) l .left
-sums setup m l acts s =
-    let e = ap (λ (x : List Byte). length x) (in-order setup m l acts s) in
+sums setup m l acts k =
+    let e = ap (λ (x : List Byte). length x) (in-order setup m l acts k) in
     let a = length-append (openBytes m l) (asked setup m l acts) in
     let b = length-append (moved setup m l acts) (openBytes (after setup m acts) l) in
     let c = how-many (requestOf (m .channel) l .left) (firstByte (requestOf (m .channel) l)) in

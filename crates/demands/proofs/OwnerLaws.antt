@@ -29,7 +29,7 @@ use Rattle.step.proofs.PlanLaws.{says, plan-ready}
 use Rattle.step.proofs.KeepLaws.{pathAt, nextCycle}
 use Rattle.demands.specs.History.{Moment, Act, posts, steps, noTally, next, after, Start}
 use Rattle.demands.specs.Log.{added, logOf, fits, heldAfter, phaseAfter, keepsToOwners}
-use Rattle.demands.proofs.KeptLaws.{next-kept}
+use Rattle.demands.proofs.KeptLaws.{by-ready}
 
 -- the line rule and a post leave the phase
 pub rule-phase : (ch : Channel) → lineRule ch .phase ≡ ch .phase
@@ -87,13 +87,14 @@ front : (before : Phase) (answer : StepAnswer) (later : Phase) (log : List Entry
 front before (Done entry) later log t k = rw (t .0) (rw (t .1) at k)
 front before (Refused why) later log t k = rw t at k
 
-step-told : (setup : Setup) (m : Moment) → Start setup m
+step-told : (setup : Setup) (m : Moment)
     → Told (m .channel .phase) (stepOf setup (m .channel) noTally (m .slave) (m .master) .answer) (next setup m steps .channel .phase)
 unfolding stepOf
-step-told setup m s =
+step-told setup m =
     let ch = m .channel in
-    let r : Ready setup ch (length (m .slave)) (length (m .master)) = record { framed = s .framed; sound = s .sound; slave = s .slave; master = s .master } in
-    rw (plan-ready setup ch (length (m .slave)) (length (m .master)) r) (act-told setup ch (actPlan setup ch) refl)
+    by-ready setup m
+    (λ r. rw (plan-ready setup ch (length (m .slave)) (length (m .master)) r) (act-told setup ch (actPlan setup ch) refl))
+    (λ why e. rw e refl)
 
 pub post-phase : (setup : Setup) (m : Moment) (p : Order) → next setup m (posts p) .channel .phase ≡ m .channel .phase
 unfolding postOf
@@ -102,12 +103,12 @@ post-phase setup m p =
 
 -- Demand 3, the grants. From any start, after any posts and steps: every cycle and every release in the log is the owner's, and a grant is logged only
 -- when nobody owns the channel. (At the start the owner is the channel's; after set-up there is none.)
-pub only-owners : (setup : Setup) (m : Moment) (acts : List Act) → Start setup m → keepsToOwners (m .channel .phase) (logOf setup m acts) ≡ true
-only-owners setup m [] s = refl
-only-owners setup m (posts p ∷ acts) s =
-    let k = only-owners setup (next setup m (posts p)) acts (next-kept setup m (posts p) s) in
+pub only-owners : (setup : Setup) (m : Moment) (acts : List Act) → keepsToOwners (m .channel .phase) (logOf setup m acts) ≡ true
+only-owners setup m [] = refl
+only-owners setup m (posts p ∷ acts) =
+    let k = only-owners setup (next setup m (posts p)) acts in
     rw (post-phase setup m p) at k
-only-owners setup m (steps ∷ acts) s =
+only-owners setup m (steps ∷ acts) =
     front (m .channel .phase) (stepOf setup (m .channel) noTally (m .slave) (m .master) .answer)
-    (next setup m steps .channel .phase) (logOf setup (next setup m steps) acts) (step-told setup m s)
-    (only-owners setup (next setup m steps) acts (next-kept setup m steps s))
+    (next setup m steps .channel .phase) (logOf setup (next setup m steps) acts) (step-told setup m)
+    (only-owners setup (next setup m steps) acts)

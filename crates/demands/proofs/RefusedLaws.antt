@@ -1,12 +1,15 @@
 -- Demand 1: a refused call changes neither channel nor store.
-use Prim.Native.Nat.{ℕ}
+use Prim.Native.Nat.{ℕ, _<_}
 use mathlib.Core.Path.{_≡_, refl}
 use mathlib.Core.Bool.{false}
 use mathlib.Core.List.{List}
 use native.Mathlib.Omega.{arith}
+use borrow.Author.Tests.{lt-ltb}
 use lib.ListN.{length}
+use Rattle.basics.specs.Limits.{stepsMost}
 use Rattle.refusal.specs.declared.Refusal.{Refusal}
-use Rattle.refusal.specs.Refusal.{isAccepted}
+use Rattle.refusal.specs.Refusal.{isAccepted, refusalBy}
+use Rattle.refusal.specs.declared.Verdict.the-variants.{Accepted, Refused as NotReady}
 use Rattle.frame.specs.declared.Setup.{Setup}
 use Rattle.channel.specs.declared.Channel.{Channel}
 use Rattle.post.specs.declared.Order.{Order}
@@ -16,7 +19,9 @@ use Rattle.tally.specs.declared.Tally.{Tally}
 use Rattle.step.specs.declared.Plan.{Plan}
 use Rattle.step.specs.declared.Plan.the-variants as plan
 use Rattle.step.specs.declared.StepAnswer.the-variants.{Refused}
-use Rattle.step.specs.Plan.{planOf}
+use Rattle.step.specs.Plan.{readyVerdict, planOf}
+use Rattle.step.specs.Run.{World, ended, runOf}
+use Rattle.step.specs.Log.{Page, closed, logOf}
 use Rattle.step.specs.Step.{advancedBy, stepOf, slaveAfter, masterAfter}
 use Rattle.step.proofs.PlanLaws.{refused-still}
 use Rattle.demands.specs.History.{Moment, posts, steps, noTally, next}
@@ -51,3 +56,24 @@ pub refused-steps : (setup : Setup) (m : Moment) (why : Refusal)
 refused-steps setup m why e =
     let k = refused-step setup (m .channel) noTally (m .slave) (m .master) why e in
     rw (k .channel, k .slave, k .master)
+
+-- a refused run, by 9 or 8 or by 7, gives back what it got and did no steps; and a logged one wrote no line
+pub refused-run : (setup : Setup) (budget : ℕ) (w : World) (why : Refusal)
+    → readyVerdict setup (w .channel) (length (w .slave)) (length (w .master)) ≡ NotReady why → runOf setup budget w ≡ ended (NotReady why) 0 w
+unfolding runOf
+refused-run setup budget w why e = rw e
+
+pub long-run : (setup : Setup) (budget : ℕ) (w : World) → readyVerdict setup (w .channel) (length (w .slave)) (length (w .master)) ≡ Accepted
+    → stepsMost < budget → runOf setup budget w ≡ ended (NotReady (refusalBy 7)) 0 w
+unfolding runOf
+long-run setup budget w e h = rw (e, lt-ltb stepsMost budget h)
+
+pub refused-log : (setup : Setup) (budget : ℕ) (w : World) (p : Page) (why : Refusal)
+    → readyVerdict setup (w .channel) (length (w .slave)) (length (w .master)) ≡ NotReady why → logOf setup budget w p ≡ closed (NotReady why) 0 w p
+unfolding logOf
+refused-log setup budget w p why e = rw e
+
+pub long-log : (setup : Setup) (budget : ℕ) (w : World) (p : Page) → readyVerdict setup (w .channel) (length (w .slave)) (length (w .master)) ≡ Accepted
+    → stepsMost < budget → logOf setup budget w p ≡ closed (NotReady (refusalBy 7)) 0 w p
+unfolding logOf
+long-log setup budget w p e h = rw (e, lt-ltb stepsMost budget h)

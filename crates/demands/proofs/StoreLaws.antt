@@ -10,6 +10,7 @@ use lib.ListN.{length, getD, take, drop, length-drop, List·getD-append}
 use lib.Seq.{paste, length-paste-head, length-take-le, getD-append-add, getD-take, getD-drop}
 use lib.Dec.{eqb, leb, ltb}
 use Rattle.basics.proofs.Tests.{by-test, and-left, and-right}
+use Rattle.refusal.specs.declared.Refusal.{Refusal}
 use Rattle.frame.specs.declared.Setup.{Setup}
 use Rattle.frame.specs.declared.Place.the-variants.{Nowhere, At}
 use Rattle.frame.proofs.FrameLaws.{framed-slaves}
@@ -46,7 +47,7 @@ use Rattle.demands.specs.Stores.{
   lastInto,
   brought,
 }
-use Rattle.demands.proofs.KeptLaws.{next-kept}
+use Rattle.demands.proofs.KeptLaws.{by-ready}
 use Rattle.demands.proofs.OrderLaws.{further-none, further-more}
 
 -- place x is one of the n places from `at` on
@@ -168,7 +169,8 @@ storeBy setup m p slaves = slaveBy setup (m .channel) p (m .slave) (m .master)
 storeBy setup m p masters = masterBy setup (m .channel) p (m .slave) (m .master)
 
 -- one cycle, and either store
-module _ (setup : Setup) (m : Moment) (s : Start setup m) (o : ℕ) (e : actPlan setup (m .channel) ≡ plan.Cycle o) where
+module _ (setup : Setup) (m : Moment) (ready : Ready setup (m .channel) (length (m .slave)) (length (m .master))) (o : ℕ)
+    (e : actPlan setup (m .channel) ≡ plan.Cycle o) where
   abbrev q : Request
   q = requestOf (m .channel) o
 
@@ -178,16 +180,13 @@ module _ (setup : Setup) (m : Moment) (s : Start setup m) (o : ℕ) (e : actPlan
   abbrev n : ℕ
   n = cycleBytes path q
 
-  ready : Ready setup (m .channel) (length (m .slave)) (length (m .master))
-  ready = record { framed = s .framed; sound = s .sound; slave = s .slave; master = s .master }
-
   room : Roomy path q (length (m .slave)) (length (m .master))
   room = planned-roomy setup (m .channel) o (length (m .slave)) (length (m .master)) ready e
 
   fits : Fits setup o q
   fits =
       let p = says setup (m .channel) (plan.Cycle o) e in
-      let k = sound-is setup (m .channel) (s .sound) .settled in
+      let k = sound-is setup (m .channel) (ready .sound) .settled in
       fits-is setup o q (k .request o (omega (arith, k .owner o (p .0) .small)) (rw (p .1)) .1)
 
   -- where the cycle's bytes begin on each side, and that they lie there one after the other, inside the store
@@ -197,7 +196,7 @@ module _ (setup : Setup) (m : Moment) (s : Start setup m) (o : ℕ) (e : actPlan
 
   ends : (side : Side) → EndsFrom setup side n (begins side) (firstByte q)
   unfolding carryOf pathOf
-  ends slaves i h = places (setup .slaves) (framed-slaves setup (s .framed)) (q .space) (q .address) (q .left) _ _ i (fits .found) (omega arith) .0
+  ends slaves i h = places (setup .slaves) (framed-slaves setup (ready .framed)) (q .space) (q .address) (q .left) _ _ i (fits .found) (omega arith) .0
   ends masters i h = refl
 
   inside : (side : Side) → begins side + n ≤ length (storeOf side m)
@@ -229,7 +228,7 @@ module _ (setup : Setup) (m : Moment) (s : Start setup m) (o : ℕ) (e : actPlan
       (λ f. rw (f, source-none setup side x n (firstByte q) f)))
 
 -- one step
-by-plan : (setup : Setup) (m : Moment) (side : Side) (x : ℕ) → Start setup m → (p : Plan) → actPlan setup (m .channel) ≡ p
+by-plan : (setup : Setup) (m : Moment) (side : Side) (x : ℕ) → Ready setup (m .channel) (length (m .slave)) (length (m .master)) → (p : Plan) → actPlan setup (m .channel) ≡ p
     → getD (storeBy setup m p side) x 0
     ≡ brought side x m (broughtFrom m (sourceIn setup side x (carried (m .channel) (advancedBy setup (m .channel) p .answer))))
 unfolding grantTurn leaveTurn cycleTurn cycleEntry cycleOf
@@ -243,16 +242,21 @@ by-plan setup m slaves x s (plan.Leave o) e = refl
 by-plan setup m masters x s (plan.Leave o) e = refl
 by-plan setup m side x s (plan.Cycle o) e = brought-by setup m s o e side x
 
-by-step : (setup : Setup) (m : Moment) (side : Side) (x : ℕ) → Start setup m
+-- a refused step leaves both stores
+left-store : (setup : Setup) (m : Moment) (side : Side) (x : ℕ) (why : Refusal) → getD (storeBy setup m (plan.Refused why) side) x 0 ≡ getD (storeOf side m) x 0
+left-store setup m slaves x why = refl
+left-store setup m masters x why = refl
+
+by-step : (setup : Setup) (m : Moment) (side : Side) (x : ℕ)
     → getD (storeBy setup m (planOf setup (m .channel) (length (m .slave)) (length (m .master))) side) x 0
     ≡ brought side x m
     (broughtFrom m
     (sourceIn setup side x (carried (m .channel) (stepOf setup (m .channel) noTally (m .slave) (m .master) .answer))))
 unfolding stepOf
-by-step setup m side x s =
-    let r : Ready setup (m .channel) (length (m .slave)) (length (m .master))
-    = record { framed = s .framed; sound = s .sound; slave = s .slave; master = s .master } in
-    rw (plan-ready setup (m .channel) (length (m .slave)) (length (m .master)) r) (by-plan setup m side x s (actPlan setup (m .channel)) refl)
+by-step setup m side x =
+    by-ready setup m
+    (λ r. rw (plan-ready setup (m .channel) (length (m .slave)) (length (m .master)) r) (by-plan setup m side x r (actPlan setup (m .channel)) refl))
+    (λ why e. rw e (left-store setup m side x why))
 
 next-store : (setup : Setup) (m : Moment) (side : Side)
     → storeOf side (next setup m steps) ≡ storeBy setup m (planOf setup (m .channel) (length (m .slave)) (length (m .master))) side
@@ -264,10 +268,10 @@ posted-store : (setup : Setup) (m : Moment) (side : Side) (a : _) → storeOf si
 posted-store setup m slaves a = refl
 posted-store setup m masters a = refl
 
-by-act : (setup : Setup) (m : Moment) (side : Side) (x : ℕ) (a : Act) → Start setup m
+by-act : (setup : Setup) (m : Moment) (side : Side) (x : ℕ) (a : Act)
     → getD (storeOf side (next setup m a)) x 0 ≡ brought side x m (broughtFrom m (sourceBy setup side x m a))
-by-act setup m side x (posts p) s = ap (λ (store : List ℕ). getD store x 0) (posted-store setup m side p)
-by-act setup m side x steps s = ap (λ (store : List ℕ). getD store x 0) (next-store setup m side) ∙ by-step setup m side x s
+by-act setup m side x (posts p) = ap (λ (store : List ℕ). getD store x 0) (posted-store setup m side p)
+by-act setup m side x steps = ap (λ (store : List ℕ). getD store x 0) (next-store setup m side) ∙ by-step setup m side x
 
 -- a later cycle, or else the earlier origin
 by-later : (side : Side) (x : ℕ) (m later : Moment) (o earlier : Origin) → getD (storeOf side later) x 0 ≡ brought side x m earlier
@@ -277,9 +281,9 @@ by-later side x m later (cycle before k) earlier e = refl
 
 -- Demand 3, the stores. From any start, after any posts and steps: every byte of both stores is the source byte, as it stood before that cycle, of the
 -- last cycle that went into it, or the starting value when none did.
-pub last-cycle : (setup : Setup) (m : Moment) (side : Side) (x : ℕ) (acts : List Act) → Start setup m
+pub last-cycle : (setup : Setup) (m : Moment) (side : Side) (x : ℕ) (acts : List Act)
     → getD (storeOf side (after setup m acts)) x 0 ≡ brought side x m (lastInto setup side x m acts)
-last-cycle setup m side x [] s = refl
-last-cycle setup m side x (a ∷ acts) s =
-    last-cycle setup (next setup m a) side x acts (next-kept setup m a s)
-    ∙ by-later side x m (next setup m a) (lastInto setup side x (next setup m a) acts) (broughtFrom m (sourceBy setup side x m a)) (by-act setup m side x a s)
+last-cycle setup m side x [] = refl
+last-cycle setup m side x (a ∷ acts) =
+    last-cycle setup (next setup m a) side x acts
+    ∙ by-later side x m (next setup m a) (lastInto setup side x (next setup m a) acts) (broughtFrom m (sourceBy setup side x m a)) (by-act setup m side x a)

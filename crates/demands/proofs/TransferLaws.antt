@@ -35,7 +35,7 @@ use Rattle.step.proofs.PlanLaws.{says, plan-ready}
 use Rattle.step.proofs.KeepLaws.{pathAt, nextCycle, clockAt, restAt, here}
 use Rattle.demands.specs.History.{Moment, Act, posts, steps, noTally, next, Start}
 use Rattle.demands.specs.Log.{added, logOf, isNextCycle, restOf, endsTransfer, runsOn}
-use Rattle.demands.proofs.KeptLaws.{next-kept}
+use Rattle.demands.proofs.KeptLaws.{by-ready, next-shaped}
 use Rattle.demands.proofs.OwnerLaws.{rule-phase, moved-phase, post-phase}
 
 pub rule-request : (ch : Channel) (l : ℕ) → requestOf (lineRule ch) l ≡ requestOf ch l
@@ -139,28 +139,30 @@ module _ (setup : Setup) (framed : isFramed setup ≡ true) (ch : Channel) (shap
       let same : l ≡ o = cc in
       rw same (cycle-whole (rw same at (p .2)) (rw same at on))
 
-step-whole : (setup : Setup) (m : Moment) (o : ℕ) (log : List Entry) → Start setup m → m .channel .phase ≡ Granted o
+step-whole : (setup : Setup) (m : Moment) (o : ℕ) (log : List Entry) → Shaped (m .channel) → m .channel .phase ≡ Granted o
     → hasRequest (m .channel .left) o ≡ true
     → (next setup m steps .channel .phase ≡ Granted o → hasRequest (next setup m steps .channel .left) o ≡ true
     → runsOn setup o (requestOf (next setup m steps .channel) o) log ≡ true)
     → runsOn setup o (requestOf (m .channel) o) (added (stepOf setup (m .channel) noTally (m .slave) (m .master) .answer) log) ≡ true
 unfolding stepOf
-step-whole setup m o log s f h on =
+step-whole setup m o log k f h on =
     let ch = m .channel in
-    let r : Ready setup ch (length (m .slave)) (length (m .master)) = record { framed = s .framed; sound = s .sound; slave = s .slave; master = s .master } in
+    by-ready setup m
+    (λ r.
     let q = plan-ready setup ch (length (m .slave)) (length (m .master)) r in
-    rw q (act-whole setup (s .framed) ch (s .shaped) (sound-is setup ch (s .sound)) o f h log (actPlan setup ch) refl (rw q at on))
+    rw q (act-whole setup (r .framed) ch k (sound-is setup ch (r .sound)) o f h log (actPlan setup ch) refl (rw q at on)))
+    (λ why e. rw e ((rw e at on) f h))
 
 -- Demand 3, whole transfers. From any start, after any posts and steps: where the owner has an open request, the log goes on with the cycles of its
 -- transfer, up to the next multiple of W or the request's end; no other level's cycle, no grant and no release stands between them.
-pub whole-transfer : (setup : Setup) (m : Moment) (acts : List Act) (o : ℕ) → Start setup m → m .channel .phase ≡ Granted o
+pub whole-transfer : (setup : Setup) (m : Moment) (acts : List Act) (o : ℕ) → Shaped (m .channel) → m .channel .phase ≡ Granted o
     → hasRequest (m .channel .left) o ≡ true → runsOn setup o (requestOf (m .channel) o) (logOf setup m acts) ≡ true
-whole-transfer setup m [] o s f h = refl
-whole-transfer setup m (posts p ∷ acts) o s f h =
+whole-transfer setup m [] o k f h = refl
+whole-transfer setup m (posts p ∷ acts) o k f h =
     let e = post-request setup m p o h in
-    let k = whole-transfer setup (next setup m (posts p)) acts o (next-kept setup m (posts p) s) (post-phase setup m p ∙ f)
+    let later = whole-transfer setup (next setup m (posts p)) acts o (next-shaped setup m (posts p) k) (post-phase setup m p ∙ f)
     (ap (λ (q : Request). not (eqb (q .left) 0)) e ∙ h) in
-    rw e at k
-whole-transfer setup m (steps ∷ acts) o s f h =
-    step-whole setup m o (logOf setup (next setup m steps) acts) s f h
-    (λ g k. whole-transfer setup (next setup m steps) acts o (next-kept setup m steps s) g k)
+    rw e at later
+whole-transfer setup m (steps ∷ acts) o k f h =
+    step-whole setup m o (logOf setup (next setup m steps) acts) k f h
+    (λ g n. whole-transfer setup (next setup m steps) acts o (next-shaped setup m steps k) g n)

@@ -3,10 +3,7 @@ use Prim.Native.Nat.{ℕ}
 use mathlib.Core.Path.{_≡_}
 use mathlib.Core.Bool.{true}
 use mathlib.Core.List.{List, [], _∷_}
-use lib.ListN.{length}
 use Rattle.frame.specs.declared.Setup.{Setup}
-use Rattle.frame.specs.Frame.{isFramed}
-use Rattle.frame.specs.Find.{slaveStoreLength}
 use Rattle.channel.specs.declared.Channel.{Channel}
 use Rattle.channel.specs.Channel.{Shaped}
 use Rattle.sound.specs.Sound.{isSound}
@@ -26,7 +23,7 @@ pub data Act : Type 0 where
   posts : Order → Act
   steps : Act
 
--- the tally has no part in what happens: any will do
+-- the tally has no part in what happens (laws `step-tally` and `run-tally`): any will do
 abbrev pub noTally : Tally
 noTally = record { grants = 0; cycles = 0; bytes = 0; hold = 0 }
 
@@ -45,10 +42,8 @@ abbrev pub after : Setup → Moment → List Act → Moment
 after setup m [] = m
 after setup m (a ∷ acts) = after setup (next setup m a) acts
 
--- where a history may start: a framed set-up, stores of the right lengths, and a sound channel
+-- a channel of the program that isn't unsound. That the set-up keeps its frame and that the stores have its lengths is assumed nowhere: a post that is
+-- accepted and a step that is taken bring it, and any other act changes nothing.
 pub record Start (setup : Setup) (m : Moment) : Type 0 where
-  pub framed : isFramed setup ≡ true
-  pub sound : isSound setup (m .channel) ≡ true
   pub shaped : Shaped (m .channel)
-  pub slave : length (m .slave) ≡ slaveStoreLength (setup .slaves)
-  pub master : length (m .master) ≡ setup .master
+  pub sound : isSound setup (m .channel) ≡ true

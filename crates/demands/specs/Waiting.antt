@@ -2,26 +2,42 @@
 use Prim.Native.Nat.{ℕ}
 use mathlib.Core.Bool.{cond}
 use mathlib.Core.List.{List, [], _∷_}
+use lib.Dec.{eqb}
 use Rattle.frame.specs.declared.Setup.{Setup}
 use Rattle.channel.specs.declared.Phase.{Phase}
 use Rattle.channel.specs.declared.Phase.the-variants.{Arbitrating, Granted}
+use Rattle.channel.specs.declared.Asked.{Asked}
+use Rattle.channel.specs.declared.Asked.the-variants.{Never, At}
 use Rattle.channel.specs.declared.Channel.{Channel}
 use Rattle.channel.specs.Line.{othersAsk}
 use Rattle.demands.specs.History.{Moment, Act, next}
 
--- nobody else has had an open request since the grant; or somebody has since this clock
+-- nobody but the owner has had an open request since its grant; or, of this owner, somebody has since this clock
 pub data First : Type 0 where
   nobody : First
-  since : ℕ → First
+  since : ℕ → ℕ → First
 
--- one moment later: while arbitrating nobody waits for an owner; once somebody does, that clock stays until the release
+-- another level has an open request now
+abbrev pub asksNow : ℕ → Channel → First
+asksNow owner ch = cond (othersAsk ch) (since owner (ch .clock)) nobody
+
+-- one moment later: while arbitrating nobody waits for an owner; once somebody does, that clock stays for as long as the owner does
 abbrev pub noted : Phase → First → Channel → First
 noted Arbitrating first ch = nobody
-noted (Granted owner) (since clock) ch = since clock
-noted (Granted owner) nobody ch = cond (othersAsk ch) (since (ch .clock)) nobody
+noted (Granted owner) nobody ch = asksNow owner ch
+noted (Granted owner) (since o clock) ch = cond (eqb o owner) (since o clock) (asksNow owner ch)
 
 abbrev pub firstAfter : First → Channel → First
 firstAfter first ch = noted (ch .phase) first ch
+
+-- at the start the owner counts as granted there, and its asked time, if any, as that moment
+abbrev pub firstIn : Phase → Asked → First
+firstIn Arbitrating asked = nobody
+firstIn (Granted owner) Never = nobody
+firstIn (Granted owner) (At clock) = since owner clock
+
+abbrev pub firstOf : Channel → First
+firstOf ch = firstIn (ch .phase) (ch .asked)
 
 -- over a history
 abbrev pub firstOver : Setup → Moment → First → List Act → First
