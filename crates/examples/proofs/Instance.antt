@@ -1,42 +1,73 @@
--- The example sheet of document 01 meets the hypotheses of demand 3, and the theorems speak of it: its set-up and its stores are a start, its posts
--- and steps a history, whose log and stores the checker computes.
-use Prim.Native.Nat.{_+_, _≤_}
-use mathlib.Core.Path.{_≡_}
+-- Demand 3 of the example sheet of document 01, clause by clause, with its numbers. Its set-up, its stores and its calls are put into the theorem; what it then
+-- says of them is read with what the checker computes of the sheet.
+use Prim.Native.Nat.{ℕ, _+_, _≤_}
+use mathlib.Core.Path.{_≡_, refl, sym, ap, _∙_}
 use mathlib.Core.Bool.{true}
-use mathlib.Core.List.{_∷_}
+use mathlib.Core.List.{List, [], _∷_, _++_, append-nil}
+use lib.ListN.{length, getD}
 use Rattle.channel.specs.declared.Phase.the-variants.{Arbitrating}
 use Rattle.channel.specs.Channel.{requestOf}
-use Rattle.demands.specs.History.{Act, posts, steps, next, after, Start}
+use Rattle.act.specs.declared.Entry.{Entry}
+use Rattle.demands.specs.History.{Moment, Act, posts, steps, next, after}
+use Rattle.demands.specs.Calls.{calledAll, actsOver}
 use Rattle.demands.specs.Log.{logOf, keepsToOwners, runsOn}
+use Rattle.demands.specs.Bytes.{Byte, openBytes, asked, moved, logged}
+use Rattle.demands.specs.Stores.{Origin, slaves, brought}
+use Rattle.demands.specs.Demand.{bytesAsked, bytesMoved, AfterSetUp}
 use Rattle.demands.proofs.KeptLaws.{always}
-use Rattle.demands.proofs.OwnerLaws.{only-owners}
+use Rattle.demands.proofs.CallLaws.{calls-are-acts}
 use Rattle.demands.proofs.TransferLaws.{whole-transfer}
-use Rattle.demands.proofs.BoundLaws.{fresh-start, bound}
+use Rattle.demands.proofs.DemandLaws.{fresh-start, after-set-up}
 use Rattle.examples.specs.Printed.{orderOf}
 use Rattle.examples.specs.Sheet.{setup, second}
-use Rattle.examples.specs.Instance.{slave, master, begin, before, until, later, acts, entries}
+use Rattle.examples.specs.Instance.{slave, master, begin, before, until, later, acts, calls, asRuns, bytesOf3, bytesOf7, entries}
 use Rattle.examples.proofs.Whole.{history}
 
--- so the fresh channel with these stores is where a history may start, and every moment of this one is
-start : Start setup begin
-start = fresh-start setup slave master (history .framed) (history .slave-length) (history .master-length)
+met : AfterSetUp setup slave master calls
+met = after-set-up setup slave master calls
 
-start-then : Start setup (after setup begin acts)
-start-then = always setup begin acts start
+-- its calls are its posts and steps, and by runs they come to the same moment
+now : calledAll setup begin calls ≡ after setup begin acts
+now = calls-are-acts setup begin calls
 
--- each cycle stands between its owner's grant and release
+by-runs : calledAll setup begin asRuns ≡ after setup begin acts
+by-runs = calls-are-acts setup begin asRuns ∙ ap (after setup begin) (history .as-runs)
+
+-- "per level, bytes asked = bytes moved + bytes open": 7 = 7 + 0 and 2 = 2 + 0
+sums-3 : (bytesAsked setup begin 3 acts ≡ 7 + 0) × (bytesMoved setup begin 3 acts ≡ 7)
+sums-3 = (met .sums 3 ∙ rw (history .open-3, history .log) refl, rw (history .log) refl)
+
+sums-7 : (bytesAsked setup begin 7 acts ≡ 2 + 0) × (bytesMoved setup begin 7 acts ≡ 2)
+sums-7 = (met .sums 7 ∙ rw (history .open-7, history .log) refl, rw (history .log) refl)
+
+-- "its cycles cover its requests in posting order, each byte once": the bytes from 4097 on go through level 3's cycles, and the two from 4096 on
+-- through level 7's
+order-3 : moved setup begin 3 acts ++ openBytes (after setup begin acts) 3 ≡ bytesOf3
+order-3 = sym (met .order 3) ∙ history .asked-3
+
+order-7 : moved setup begin 7 acts ++ openBytes (after setup begin acts) 7 ≡ bytesOf7
+order-7 = sym (met .order 7) ∙ history .asked-7
+
+-- "only between its grant and its release"
 owners : keepsToOwners Arbitrating entries ≡ true
-owners = rw (history .log) at (only-owners setup begin acts start)
+owners = rw (history .log) at (met .owners)
+
+-- "every store byte is the source byte .. that the last cycle into it carried, or its starting value": byte 3 of the slave store is the master's byte 2,
+-- and byte 0 is its starting value
+came : getD (after setup begin acts .slave) 3 0 ≡ 2
+came = met .stores slaves 3 ∙ history .into-3
+
+stayed : getD (after setup begin acts .slave) 0 0 ≡ 0
+stayed = met .stores slaves 0 ∙ ap (brought slaves 0 begin) (history .into-0)
+
+-- "no owner holds the channel more than 7,800 ns past the first moment ..": level 7 waits for level 3 since 300, and whatever the host does next, it is not
+-- later than 8,100 then
+in-time : (a : Act) → next setup (after setup begin until) a .channel .clock ≤ 300 + 7800
+in-time = met .hold until later refl 3 300 (history .first-moment)
 
 -- after its grant level 3 has the cycles of its transfer one after the other, though level 7 comes to wait inside it
 transfer : runsOn setup 3 (requestOf (after setup begin before .channel) 3)
     (logOf setup (after setup begin before) (steps ∷ posts (orderOf second) ∷ later)) ≡ true
 transfer =
-    whole-transfer setup (after setup begin before) (steps ∷ posts (orderOf second) ∷ later) 3 (always setup begin before start)
-    (history .owner) (history .request)
-
--- level 7 waits since 300: whatever the host does next, it is not later than 8,100 then
-in-time : (a : Act) → next setup (after setup begin until) a .channel .clock ≤ 300 + 7800
-in-time =
-    bound setup slave master until 3 300 (history .framed) (history .slave-length) (history .master-length) (history .owner-until)
-    (history .first-moment)
+    whole-transfer setup (after setup begin before) (steps ∷ posts (orderOf second) ∷ later) 3
+    (always setup begin before (fresh-start setup slave master) .shaped) (history .owner) (history .request)

@@ -39,12 +39,11 @@ use Rattle.step.specs.declared.Plan.the-variants as plan
 use Rattle.step.specs.declared.StepAnswer.{StepAnswer}
 use Rattle.step.specs.declared.StepAnswer.the-variants.{Done, Refused as NotDone}
 use Rattle.step.specs.Plan.{readyVerdict, planBy, planOf, ownerPlan, actPlan, phasePlan}
-use Rattle.step.specs.Step.{planNumbers, stepNumbers, advancedBy, stepOf}
+use Rattle.step.specs.Step.{Ready, planNumbers, stepNumbers, advancedBy, stepOf}
 use Rattle.step.proofs.PlanLaws.{ready-is}
 use Rattle.step.specs.Run.{World, Out, ended, stepIn, after, goOn, runFrom, runOf}
 use Rattle.step.specs.Log.{Page, lined, LoggedOut, closed, logOn, logFrom, logOf}
-use Rattle.demands.specs.History.{Moment, Start, steps}
-use Rattle.demands.proofs.KeptLaws.{next-kept}
+use Rattle.step.proofs.TurnLaws.{ready-next}
 use Rattle.sheet.specs.declared.Judged.{Judged}
 use Rattle.sheet.specs.declared.Judged.the-variants.{Good, Fault}
 use Rattle.sheet.specs.Sheet.{answered, sheetNumbers}
@@ -167,13 +166,17 @@ sheet-told (Fault why place) need room = refl
 
 -- a run
 
-abbrev momentOf : World → Moment
-momentOf w = record { channel = w .channel; slave = w .slave; master = w .master }
+-- a world that a run may start from
+pub record Runnable (setup : Setup) (w : World) : Type 0 where
+  pub ready : Ready setup (w .channel) (length (w .slave)) (length (w .master))
+  pub shaped : Shaped (w .channel)
 
-module _ (setup : Setup) (w : World) (s : Start setup (momentOf w)) where
+module _ (setup : Setup) (w : World) (s : Runnable setup w) where
   ready-rows : firstOf (stepRows setup (w .channel) (length (w .slave)) (length (w .master)))
       ≡ firstOf ((6, passes setup (w .channel) (w .channel .phase)) ∷ [])
-  ready-rows = rw (s .framed, s .sound, eq-eqb (length (w .slave)) _ (s .slave), eq-eqb (length (w .master)) _ (s .master))
+  ready-rows =
+      let r = s .ready in
+      rw (r .framed, r .sound, eq-eqb (length (w .slave)) _ (r .slave), eq-eqb (length (w .master)) _ (r .master))
 
   -- a step of a channel that is ready is refused by 6 alone
   only-six : (why : Refusal) → stepIn setup w .answer ≡ NotDone why → numberOf why ≡ 6
@@ -184,15 +187,16 @@ module _ (setup : Setup) (w : World) (s : Start setup (momentOf w)) where
       ∙ ready-rows in
       by-test (passes setup (w .channel) (w .channel .phase)) (λ t. rw t at e) (λ f. absurd (not-zero why (rw f at e)))
 
-  kept : Start setup (momentOf (after setup w))
-  unfolding after stepOf
-  kept = next-kept setup (momentOf w) steps s
+  kept : Runnable setup (after setup w)
+  kept =
+      let k = ready-next setup (w .channel) (w .tally) (w .slave) (w .master) (s .ready) (s .shaped) in
+      record { ready = k .0; shaped = k .1 }
 
 -- of so many steps in all it takes no more, and it has 6 where it takes fewer, and else 0
 abbrev Stopped : ℕ → Out → Type 0
 Stopped all out = (out .result .steps ≤ all) × (verdictNumber (out .result .verdict) ≡ cond (ltb (out .result .steps) all) 6 0)
 
-run-from : (setup : Setup) (left done : ℕ) (w : World) → Start setup (momentOf w) → Stopped (done + left) (runFrom setup left done w)
+run-from : (setup : Setup) (left done : ℕ) (w : World) → Runnable setup w → Stopped (done + left) (runFrom setup left done w)
 unfolding runFrom
 run-from setup zero done w s = (omega arith, rw (le-ltb done (done + 0) (omega arith)))
 run-from setup (suc left) done w s =
@@ -205,10 +209,8 @@ run-from setup (suc left) done w s =
 
 -- where neither 9 nor 8 refuses
 ready-start : (setup : Setup) (w : World) → Shaped (w .channel)
-    → readyVerdict setup (w .channel) (length (w .slave)) (length (w .master)) ≡ Accepted → Start setup (momentOf w)
-ready-start setup w k e =
-    let r = ready-is setup (w .channel) (length (w .slave)) (length (w .master)) e in
-    record { framed = r .framed; sound = r .sound; shaped = k; slave = r .slave; master = r .master }
+    → readyVerdict setup (w .channel) (length (w .slave)) (length (w .master)) ≡ Accepted → Runnable setup w
+ready-start setup w k e = record { ready = ready-is setup (w .channel) (length (w .slave)) (length (w .master)) e; shaped = k }
 
 pub run-number : (setup : Setup) (budget : ℕ) (w : World) → Shaped (w .channel)
     → verdictNumber (runOf setup budget w .result .verdict) ≡ firstOf (runRows setup budget w)
@@ -225,7 +227,7 @@ LogStopped all out =
     (out .result .ran .steps ≤ all)
     × (verdictNumber (out .result .ran .verdict) ≡ cond (ltb (out .result .ran .steps) all && roomLeft out) 6 0)
 
-log-from : (setup : Setup) (left done : ℕ) (w : World) (p : Page) → Start setup (momentOf w)
+log-from : (setup : Setup) (left done : ℕ) (w : World) (p : Page) → Runnable setup w
     → LogStopped (done + left) (logFrom setup left done w p)
 unfolding logFrom
 log-from setup zero done w p s = (omega arith, rw (le-ltb done (done + 0) (omega arith)))

@@ -30,9 +30,9 @@ use Rattle.frame.specs.Frame.{
 }
 use Rattle.frame.specs.Allowance.{allowance, isWithin}
 use Rattle.frame.specs.Rows.{isPresent, levelOf}
-use Rattle.frame.specs.Find.{levelIndex, levelRow, holds, slaveIndex, slaveRow, slaveStoreLength}
+use Rattle.frame.specs.Find.{levelIndex, levelRow, holds, slaveIndex, slaveRow, slaveStoreLength, placeOf}
 use Rattle.channel.specs.declared.Phase.the-variants.{Arbitrating, Granted}
-use Rattle.channel.specs.Channel.{fresh, hasRequest, withRequest}
+use Rattle.channel.specs.Channel.{fresh, hasRequest, withRequest, requestOf}
 use Rattle.channel.specs.Line.{waits, drives, lineActive, asks, othersAsk, cleared, timed, winnerFrom}
 use Rattle.channel.specs.Slave.{slaveOf, startOf}
 use Rattle.sound.specs.Request.{isInRange, requestVerdict, transferOf}
@@ -68,7 +68,7 @@ use Rattle.act.specs.Turn.{arbitrationTime, granted, grantTurn, leaveTurn}
 use Rattle.tally.specs.Tally.{addGrant, addCycle, addRelease}
 use Rattle.step.specs.Plan.{ownerPlan, actPlan, readyVerdict, planOf}
 use Rattle.step.specs.Step.{stepOf, carryOf, movedSlave, movedMaster, slaveAfter, masterAfter}
-use Rattle.step.specs.Run.{world, after}
+use Rattle.step.specs.Run.{world, after, runFrom, runOf}
 use Rattle.act.specs.Entry.{cycleFields}
 use Rattle.number.specs.Number.{readAt, bytesOf}
 use Rattle.sheet.specs.declared.Judged.the-variants.{Good}
@@ -90,10 +90,13 @@ use Rattle.sheetlist.specs.Held.{
 use Rattle.sheetlist.specs.declared.Event.the-variants.{Steps, Post}
 use Rattle.demands.specs.History.{noTally, after as afterActs}
 use Rattle.demands.specs.Log.{logOf}
+use Rattle.demands.specs.Calls.{actsOver}
+use Rattle.demands.specs.Bytes.{asked}
+use Rattle.demands.specs.Stores.{slaves, masters, start, lastInto, brought}
 use Rattle.demands.specs.Waiting.{nobody, since, firstOver}
 use Rattle.examples.specs.Printed.{bytesFrom, begun, eventsOf, eventsPrint, sheetPrint}
 use Rattle.examples.specs.Sheet.{input, list, setup, postFields, first, second, events, output}
-use Rattle.examples.specs.Instance.{slave, master, begin, before, until, acts, entries}
+use Rattle.examples.specs.Instance.{slave, master, begin, before, until, acts, asRuns, bytesOf3, bytesOf7, entries}
 use Rattle.examples.specs.Bursts.{askedAtGrant, askedLater, figures}
 
 -- the bytes of lines, each with its end
@@ -164,7 +167,16 @@ pub record History : Type 0 where
   pub owner : afterActs setup begin before .channel .phase ≡ Granted 3
   pub request : hasRequest (afterActs setup begin before .channel .left) 3 ≡ true
   pub owner-until : afterActs setup begin until .channel .phase ≡ Granted 3
-  pub first-moment : firstOver setup begin nobody until ≡ since 300
+  pub first-moment : firstOver setup begin nobody until ≡ since 3 300
+  pub asked-3 : asked setup begin 3 acts ≡ bytesOf3
+  pub asked-7 : asked setup begin 7 acts ≡ bytesOf7
+  pub open-3 : requestOf (afterActs setup begin acts .channel) 3 .left ≡ 0
+  pub open-7 : requestOf (afterActs setup begin acts .channel) 7 .left ≡ 0
+  -- the last cycle into byte 3 of the slave store brought a 2; no cycle went into byte 0, or into byte 3 of the master store
+  pub into-3 : brought slaves 3 begin (lastInto setup slaves 3 begin acts) ≡ 2
+  pub into-0 : lastInto setup slaves 0 begin acts ≡ start
+  pub master-3 : lastInto setup masters 3 begin acts ≡ start
+  pub as-runs : actsOver setup begin asRuns ≡ acts
 
 computed : Whole × (Lines × (Bursts × History))
 unfolding codes bytes
@@ -178,7 +190,8 @@ unfolding codes bytes
     areRequestsSound isMarkSound areMarksSound isInTime isAskedAt isAskedSound isSound
     postVerdict posted postOf
     pathOf restAfter nextTime cycleOf isLate isLeaving endingOf clocked freed movedOn cycleEntry cycleTurn arbitrationTime granted grantTurn leaveTurn
-    addGrant addCycle addRelease ownerPlan actPlan readyVerdict planOf stepOf carryOf movedSlave movedMaster slaveAfter masterAfter after cycleFields
+    addGrant addCycle addRelease ownerPlan actPlan readyVerdict planOf stepOf carryOf movedSlave movedMaster slaveAfter masterAfter after runFrom runOf cycleFields
+    placeOf
 computed = (
   record {
     good = refl;
@@ -225,6 +238,14 @@ computed = (
         request = refl;
         owner-until = refl;
         first-moment = refl;
+        asked-3 = refl;
+        asked-7 = refl;
+        open-3 = refl;
+        open-7 = refl;
+        into-3 = refl;
+        into-0 = refl;
+        master-3 = refl;
+        as-runs = refl;
       },
     ),
   ),

@@ -8,15 +8,17 @@ use Rattle.act.specs.declared.Ending.{Ending}
 use Rattle.act.specs.declared.Ending.the-variants.{Kept, Released, Marked}
 use Rattle.act.specs.declared.Entry.{Entry}
 use Rattle.act.specs.declared.Entry.the-variants.{Grant, Cycle}
-use Rattle.demands.specs.History.{Moment, Act, posts, steps}
-use Rattle.examples.specs.Printed.{orderOf, bytesFrom}
-use Rattle.examples.specs.Sheet.{first, second}
+use Rattle.demands.specs.History.{Moment, Act, posts, steps, noTally}
+use Rattle.demands.specs.Calls.{Call, post, step, run}
+use Rattle.demands.specs.Bytes.{Byte, bytesFrom}
+use Rattle.examples.specs.Printed.{orderOf, bytesFrom as numbersFrom}
+use Rattle.examples.specs.Sheet.{setup, first, second}
 
 abbrev pub slave : List ℕ
 slave = replicate 16 0
 
 abbrev pub master : List ℕ
-master = bytesFrom 0 4096
+master = numbersFrom 0 4096
 
 abbrev pub begin : Moment
 begin = record { channel = fresh; slave = slave; master = master }
@@ -33,6 +35,22 @@ later = steps ∷ steps ∷ steps ∷ steps ∷ steps ∷ steps ∷ steps ∷ []
 
 abbrev pub acts : List Act
 acts = until ++ later
+
+-- the same as calls: step by step, and by runs
+abbrev pub calls : List (Call setup)
+calls =
+    post (orderOf first) ∷ step noTally ∷ step noTally ∷ post (orderOf second)
+    ∷ step noTally ∷ step noTally ∷ step noTally ∷ step noTally ∷ step noTally ∷ step noTally ∷ step noTally ∷ []
+
+abbrev pub asRuns : List (Call setup)
+asRuns = post (orderOf first) ∷ run noTally 2 ∷ post (orderOf second) ∷ run noTally 7 ∷ []
+
+-- the seven bytes that level 3 asks for, and the two of level 7
+abbrev pub bytesOf3 : List Byte
+bytesOf3 = bytesFrom 7 (record { direction = 1; space = 1; address = 4097; offset = 0 })
+
+abbrev pub bytesOf7 : List Byte
+bytesOf7 = bytesFrom 2 (record { direction = 0; space = 1; address = 4096; offset = 16 })
 
 abbrev pub cycle : ℕ → ℕ → ℕ → ℕ → ℕ → ℕ → ℕ → Ending → Entry
 cycle clock l a n d m s ending =

@@ -3,6 +3,7 @@ use Prim.Native.Nat.{ℕ, _+_, _-_, _≤_, _<_}
 use mathlib.Core.Path.{_≡_, refl, sym, ap, subst, _∙_}
 use mathlib.Core.Bool.{true, false, not, false≢true}
 use mathlib.Core.Logic.{_⊎_, inl, inr, ⊎-elim}
+use mathlib.Core.List.{List}
 use native.Mathlib.Omega.{arith}
 use borrow.Author.Tests.{eqb-true, eqb-false, not-true}
 use lib.ListN.{length, getD}
@@ -23,6 +24,7 @@ use Rattle.act.specs.declared.Entry.{Entry}
 use Rattle.act.specs.Cycle.{pathOf, endingAt, freed, cycleTurn}
 use Rattle.act.specs.Turn.{granted, grantTurn, leaveTurn}
 use Rattle.act.proofs.EndingLaws.{ended-request}
+use Rattle.tally.specs.declared.Tally.{Tally}
 use Rattle.step.specs.declared.Stepped.{Stepped}
 use Rattle.step.specs.declared.Plan.{Plan}
 use Rattle.step.specs.declared.Plan.the-variants as plan
@@ -30,7 +32,7 @@ use Rattle.step.specs.declared.StepAnswer.{StepAnswer}
 use Rattle.step.specs.declared.StepAnswer.the-variants.{Done, Refused as NotDone}
 use Rattle.step.specs.Plan.{actPlan, planOf}
 use Rattle.step.specs.Step.{Ready, Room, advancedBy, tallyBy, stepOf, slaveBy, masterBy, slaveAfter, masterAfter}
-use Rattle.step.specs.Run.{stepIn, after, runFrom}
+use Rattle.step.specs.Run.{world, stepIn, after, runFrom}
 use Rattle.step.specs.Turns.{Running, worldOf, toCome, steps, stops, decidedIn, stepRun}
 use Rattle.step.proofs.PlanLaws.{says, plan-ready, planned-roomy, moved-lengths}
 use Rattle.step.proofs.KeepLaws.{step-sound, step-shaped, pathAt, nextCycle, restAt, movedAt, here, other, same-path}
@@ -257,3 +259,13 @@ pub turned-step : (setup : Setup) (budget : ℕ) (w : Running) → w .full ≡ f
     ≡ pathOf setup o (requestOf (w .channel) o))
     → Turned setup budget w (stepRun path w)
 turned-step setup budget w f h r k path way = turned-once setup budget w (stepRun path w) _ f h (one-step setup w r k path way)
+
+-- a channel that is ready is so after its step
+pub ready-next : (setup : Setup) (ch : Channel) (t : Tally) (slave master : List ℕ) → Ready setup ch (length slave) (length master) → Shaped ch
+    → Ready setup (after setup (world ch t slave master) .channel) (length (after setup (world ch t slave master) .slave))
+    (length (after setup (world ch t slave master) .master))
+    × Shaped (after setup (world ch t slave master) .channel)
+ready-next setup ch t slave master r k =
+    let w : Running = record { channel = ch; tally = t; done = 0; full = false; slave = slave; master = master } in
+    let s = by-plan setup w r k (actPlan setup ch) refl in
+    rw (s .next) (s .ready, s .shaped)
