@@ -16,15 +16,12 @@ use Rattle.channel.specs.declared.Phase.the-variants.{Arbitrating, Granted}
 use Rattle.channel.specs.declared.Asked.{Asked}
 use Rattle.channel.specs.declared.Asked.the-variants.{Never, At}
 use Rattle.channel.specs.declared.Channel.{Channel}
-use Rattle.frame.specs.Find.{slaveStoreLength}
-use Rattle.channel.specs.Channel.{requestOf, withRequest, fresh, Shaped}
-use Rattle.channel.proofs.RequestLaws.{fresh-shaped}
-use Rattle.post.proofs.FreshLaws.{fresh-sound}
+use Rattle.channel.specs.Channel.{requestOf, withRequest, Shaped}
 use Rattle.channel.specs.Line.{line, othersAsk, cleared, askedNow, timed, lineRule}
 use Rattle.channel.proofs.LineLaws.{line-timed, line-after}
 use Rattle.frame.specs.Allowance.{allowance, isWithin}
 use Rattle.sound.specs.Sound.{isInTime}
-use Rattle.sound.proofs.SoundFacts.{Sound, InTime, sound-is, sound-by}
+use Rattle.sound.proofs.SoundFacts.{Sound, InTime, sound-is}
 use Rattle.sound.proofs.RuleLaws.{rule-same}
 use Rattle.refusal.specs.Refusal.{isAccepted}
 use Rattle.post.specs.declared.Order.{Order}
@@ -37,7 +34,7 @@ use Rattle.act.specs.Turn.{granted, grantTurn, leaveTurn}
 use Rattle.step.specs.declared.Plan.{Plan}
 use Rattle.step.specs.declared.Plan.the-variants as plan
 use Rattle.step.specs.Plan.{actPlan}
-use Rattle.step.specs.Step.{Ready, advancedBy, stepOf}
+use Rattle.step.specs.Step.{advancedBy, stepOf}
 use Rattle.step.proofs.PlanLaws.{says, plan-ready}
 use Rattle.step.proofs.KeepLaws.{pathAt, nextCycle, clockAt, takes}
 use Rattle.demands.specs.History.{Moment, Act, posts, steps, next, after, Start}

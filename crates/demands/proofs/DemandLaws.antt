@@ -1,11 +1,10 @@
 -- Demand 3, whole: from any channel that isn't unsound, and from set-up.
-use Prim.Native.Nat.{ℕ, _+_, _≤_}
-use mathlib.Core.Path.{_≡_, refl, sym, ap, _∙_}
-use mathlib.Core.Bool.{true}
+use Prim.Native.Nat.{ℕ}
+use mathlib.Core.Path.{_≡_, sym, ap, _∙_}
 use mathlib.Core.List.{List, _++_}
 use native.Mathlib.Omega.{arith}
 use borrow.Author.Tests.{ltb-true, ltb-false}
-use lib.ListN.{length, getD-replicate, length-replicate, List·getD-eq-default}
+use lib.ListN.{getD-replicate, length-replicate, List·getD-eq-default}
 use lib.Dec.{ltb}
 use Rattle.basics.specs.Limits.{places}
 use Rattle.basics.proofs.Tests.{by-test}
@@ -15,8 +14,8 @@ use Rattle.channel.specs.Channel.{requestOf, fresh}
 use Rattle.channel.proofs.RequestLaws.{fresh-shaped}
 use Rattle.sound.proofs.SoundFacts.{sound-by}
 use Rattle.post.proofs.FreshLaws.{fresh-sound}
-use Rattle.demands.specs.History.{Moment, Act, after, Start}
-use Rattle.demands.specs.Calls.{Call, calledAll, actsOver}
+use Rattle.demands.specs.History.{Moment, Start}
+use Rattle.demands.specs.Calls.{Call, actsOver}
 use Rattle.demands.specs.Bytes.{bytesFrom, firstByte, asked}
 use Rattle.demands.specs.Demand.{Demand3, setUpWith, AfterSetUp}
 use Rattle.demands.proofs.CallLaws.{calls-are-acts}

@@ -1,5 +1,4 @@
 -- Whatever the host does, a channel that isn't unsound stays so.
-use Prim.Native.Nat.{ℕ}
 use mathlib.Core.Path.{_≡_, refl, ap}
 use mathlib.Core.Bool.{true}
 use mathlib.Core.List.{List, [], _∷_}
@@ -11,15 +10,13 @@ use Rattle.refusal.specs.declared.Verdict.the-variants.{Accepted, Refused as No
 use Rattle.basics.proofs.Tests.{by-test}
 use Rattle.frame.specs.declared.Setup.{Setup}
 use Rattle.channel.specs.declared.Channel.{Channel}
-use Rattle.channel.specs.Channel.{requestOf, withRequest, Shaped}
+use Rattle.channel.specs.Channel.{withRequest, Shaped}
 use Rattle.channel.proofs.RequestLaws.{with-shaped, rule-shaped}
 use Rattle.sound.specs.Sound.{isSound}
 use Rattle.sound.proofs.SoundFacts.{sound-is, sound-by, accepted-is}
 use Rattle.post.specs.declared.Order.{Order}
 use Rattle.post.specs.Post.{requestIn, postVerdict, posted, postOf}
 use Rattle.post.proofs.PostLaws.{post-sound}
-use Rattle.act.specs.Cycle.{pathOf}
-use Rattle.step.specs.declared.Plan.{Plan}
 use Rattle.step.specs.declared.Plan.the-variants as plan
 use Rattle.step.specs.Plan.{actPlan, readyVerdict, planBy, planOf}
 use Rattle.step.specs.Step.{Ready, stepOf}

@@ -32,10 +32,10 @@ use Rattle.step.specs.declared.Plan.the-variants as plan
 use Rattle.step.specs.declared.StepAnswer.{StepAnswer}
 use Rattle.step.specs.declared.StepAnswer.the-variants.{Done, Refused}
 use Rattle.step.specs.Plan.{actPlan}
-use Rattle.step.specs.Step.{Ready, advancedBy, stepOf}
+use Rattle.step.specs.Step.{advancedBy, stepOf}
 use Rattle.step.proofs.PlanLaws.{says, plan-ready}
 use Rattle.step.proofs.KeepLaws.{pathAt, nextCycle, movedAt, endedAt, leaves, here, other}
-use Rattle.demands.specs.History.{Moment, Act, posts, steps, noTally, next, after, Start}
+use Rattle.demands.specs.History.{Moment, Act, posts, steps, noTally, next, after}
 use Rattle.demands.specs.Log.{added, logOf}
 use Rattle.demands.specs.Bytes.{
   Byte,

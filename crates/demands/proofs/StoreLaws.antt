@@ -27,7 +27,7 @@ use Rattle.step.specs.declared.Plan.the-variants as plan
 use Rattle.step.specs.Plan.{actPlan, planOf}
 use Rattle.step.specs.Step.{Ready, Roomy, advancedBy, stepOf, carryOf, movedSlave, movedMaster, slaveBy, masterBy, slaveAfter, masterAfter}
 use Rattle.step.proofs.PlanLaws.{says, planned-roomy, plan-ready}
-use Rattle.demands.specs.History.{Moment, Act, posts, steps, noTally, next, after, Start}
+use Rattle.demands.specs.History.{Moment, Act, posts, steps, noTally, next, after}
 use Rattle.demands.specs.Bytes.{Byte, further, bytesFrom, firstByte, carried}
 use Rattle.demands.specs.Stores.{
   Side,

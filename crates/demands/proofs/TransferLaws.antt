@@ -1,5 +1,5 @@
 -- A transfer is never torn.
-use Prim.Native.Nat.{ℕ, _+_, _≤_}
+use Prim.Native.Nat.{ℕ, _≤_}
 use mathlib.Core.Path.{_≡_, refl, sym, ap, _∙_}
 use mathlib.Core.Bool.{Bool, true, false, false≢true, not, _||_}
 use mathlib.Core.List.{List, [], _∷_}
@@ -18,7 +18,6 @@ use Rattle.channel.specs.declared.Request.{Request}
 use Rattle.channel.specs.Channel.{hasRequest, requestOf, withRequest, Shaped}
 use Rattle.channel.specs.Line.{cleared, timed, lineRule}
 use Rattle.channel.proofs.RequestLaws.{request-other}
-use Rattle.channel.specs.Slave.{slaveOf}
 use Rattle.sound.proofs.SoundFacts.{Sound, sound-is, accepted-is}
 use Rattle.post.specs.declared.Order.{Order}
 use Rattle.post.specs.Post.{requestIn, postVerdict, posted, postOf}
@@ -30,10 +29,10 @@ use Rattle.act.proofs.EndingLaws.{kept-inside}
 use Rattle.step.specs.declared.Plan.{Plan}
 use Rattle.step.specs.declared.Plan.the-variants as plan
 use Rattle.step.specs.Plan.{actPlan}
-use Rattle.step.specs.Step.{Ready, advancedBy, stepOf}
+use Rattle.step.specs.Step.{advancedBy, stepOf}
 use Rattle.step.proofs.PlanLaws.{says, plan-ready}
 use Rattle.step.proofs.KeepLaws.{pathAt, nextCycle, clockAt, restAt, here}
-use Rattle.demands.specs.History.{Moment, Act, posts, steps, noTally, next, Start}
+use Rattle.demands.specs.History.{Moment, Act, posts, steps, noTally, next}
 use Rattle.demands.specs.Log.{added, logOf, isNextCycle, restOf, endsTransfer, runsOn}
 use Rattle.demands.proofs.KeptLaws.{by-ready, next-shaped}
 use Rattle.demands.proofs.OwnerLaws.{rule-phase, moved-phase, post-phase}

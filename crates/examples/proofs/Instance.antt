@@ -1,18 +1,17 @@
 -- Demand 3 of the example sheet of document 01, clause by clause, with its numbers. Its set-up, its stores and its calls are put into the theorem; what it then
 -- says of them is read with what the checker computes of the sheet.
-use Prim.Native.Nat.{ℕ, _+_, _≤_}
+use Prim.Native.Nat.{_+_, _≤_}
 use mathlib.Core.Path.{_≡_, refl, sym, ap, _∙_}
 use mathlib.Core.Bool.{true}
-use mathlib.Core.List.{List, [], _∷_, _++_, append-nil}
-use lib.ListN.{length, getD}
+use mathlib.Core.List.{_∷_, _++_}
+use lib.ListN.{getD}
 use Rattle.channel.specs.declared.Phase.the-variants.{Arbitrating}
 use Rattle.channel.specs.Channel.{requestOf}
-use Rattle.act.specs.declared.Entry.{Entry}
-use Rattle.demands.specs.History.{Moment, Act, posts, steps, next, after}
-use Rattle.demands.specs.Calls.{calledAll, actsOver}
+use Rattle.demands.specs.History.{Act, posts, steps, next, after}
+use Rattle.demands.specs.Calls.{calledAll}
 use Rattle.demands.specs.Log.{logOf, keepsToOwners, runsOn}
-use Rattle.demands.specs.Bytes.{Byte, openBytes, asked, moved, logged}
-use Rattle.demands.specs.Stores.{Origin, slaves, brought}
+use Rattle.demands.specs.Bytes.{openBytes, moved}
+use Rattle.demands.specs.Stores.{slaves, brought}
 use Rattle.demands.specs.Demand.{bytesAsked, bytesMoved, AfterSetUp}
 use Rattle.demands.proofs.KeptLaws.{always}
 use Rattle.demands.proofs.CallLaws.{calls-are-acts}

@@ -40,7 +40,6 @@ use Rattle.act.specs.declared.Ending.the-variants.{Kept, Released, Marked}
 use Rattle.act.specs.Cycle.{
   Cycle,
   pathOf,
-  cycleOf,
   lateFor,
   isLate,
   isLeaving,

@@ -19,7 +19,6 @@ use Rattle.channel.specs.declared.Channel.{Channel}
 use Rattle.channel.specs.declared.Request.{Request}
 use Rattle.channel.specs.Channel.{placeIn, requestOf, withRequest, changed, Shaped}
 use Rattle.channel.specs.Line.{isInactive, cleared, timed, line, lineActive, winner}
-use Rattle.channel.specs.Slave.{slaveOf}
 use Rattle.channel.proofs.RequestLaws.{same-channel}
 use Rattle.sound.proofs.SoundFacts.{Sound, sound-is}
 use Rattle.act.specs.declared.Path.{Path}

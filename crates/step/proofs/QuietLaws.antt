@@ -1,5 +1,5 @@
 -- After a cycle and after a release the line rule has nothing to do: only a grant can change who drives the line.
-use Prim.Native.Nat.{ℕ, _+_, _≤_, _<_}
+use Prim.Native.Nat.{ℕ, _≤_, _<_}
 use mathlib.Core.Path.{_≡_, refl, sym, ap, _∙_}
 use mathlib.Core.Bool.{Bool, true, false, false≢true}
 use mathlib.Core.List.{List}
@@ -13,11 +13,10 @@ use Rattle.channel.specs.declared.Phase.the-variants.{Arbitrating, Granted}
 use Rattle.channel.specs.declared.Asked.{Asked}
 use Rattle.channel.specs.declared.Asked.the-variants.{Never, At}
 use Rattle.channel.specs.declared.Channel.{Channel}
-use Rattle.channel.specs.Channel.{ownerOf, hasRequest, requestOf, withRequest, Shaped}
+use Rattle.channel.specs.Channel.{ownerOf, hasRequest, withRequest, Shaped}
 use Rattle.channel.specs.Line.{isInactive, lineActive, line, lineRule}
 use Rattle.channel.proofs.LineLaws.{line-some, line-by}
 use Rattle.frame.specs.Rows.{isFair}
-use Rattle.channel.specs.Slave.{slaveOf}
 use Rattle.sound.proofs.SoundFacts.{Sound}
 use Rattle.sound.proofs.RuleLaws.{rule-same}
 use Rattle.act.specs.Cycle.{releasedBy, endingOf, endingAt, clocked, freed, markedAt, endedBy, movedOn}
