@@ -34,18 +34,6 @@ carry-requires c κs =
     let p = twenty .before .before .before .pre in
     room-at _ _ (p .1) _ (p .0) _ (ten .before .before .before .slot-at .ensures) _ (ten .act-on .ensures .0)
 
-enum-known-answer : tie.Need-enum-known-answer
-enum-known-answer c = search needs
-
-enum-told : tie.Need-enum-told
-enum-told c = search needs
-
-same-length : tie.Need-same-length
-same-length c = search needs
-
-same-length-2 : tie.Need-same-length-2
-same-length-2 c = search needs
-
 returns : tie.Need-returns
 returns c =
     let five = c .before .before .before .before .before in
@@ -64,9 +52,6 @@ returns c =
     (a .offset .now) (a .slave .now) (a .master .now) (a .out .now) _ (p .0) _ (twenty .before .before .slot-at .ensures)
     _ _ (d .0) (d .1) _ _ (k .0, k .1) _ (c .enum-told .given .1))
 
-put-entry-requires : tie.Need-put-entry-requires
-put-entry-requires c κs = search needs
-
 add-t42 : tie.Need-add-t42
 add-t42 c =
     let five = c .before .before .before .before .before in
@@ -77,15 +62,6 @@ add-t42 c =
     let thirty = twenty-five .before .before .before .before .before in
     let thirty-five = thirty .before .before .before .before .before in
     omega (arith, thirty-five .before .before .before .pre .1 .more)
-
-same-length-3 : tie.Need-same-length-3
-same-length-3 c = search needs
-
-same-length-4 : tie.Need-same-length-4
-same-length-4 c = search needs
-
-same-length-5 : tie.Need-same-length-5
-same-length-5 c = search needs
 
 returns-2 : tie.Need-returns-2
 returns-2 c =
@@ -114,14 +90,14 @@ log-step-spec =
     act-on-requires
     put-slot-requires
     carry-requires
-    enum-known-answer
-    enum-told
-    same-length
-    same-length-2
+    (λ c. search needs)  -- enum-known-answer
+    (λ c. search needs)  -- enum-told
+    (λ c. search needs)  -- same-length
+    (λ c. search needs)  -- same-length-2
     returns
-    put-entry-requires
+    (λ c κs. search needs)  -- put-entry-requires
     add-t42
-    same-length-3
-    same-length-4
-    same-length-5
+    (λ c. search needs)  -- same-length-3
+    (λ c. search needs)  -- same-length-4
+    (λ c. search needs)  -- same-length-5
     returns-2)
