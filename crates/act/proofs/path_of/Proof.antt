@@ -5,21 +5,6 @@ use mathlib.Core.Path.{sym, _∙_}
 use Rattle.act.proofs.path_of.Statement.{statement}
 use Rattle.act.proofs.path_of.Tie as tie
 
-level-of-requires : tie.Need-level-of-requires
-level-of-requires c κs = search needs
-
-allowance-of-requires : tie.Need-allowance-of-requires
-allowance-of-requires c κs = search needs
-
-slave-row-requires : tie.Need-slave-row-requires
-slave-row-requires c κs = search needs
-
-enum-told : tie.Need-enum-told
-enum-told c = search needs
-
-enum-known-found : tie.Need-enum-known-found
-enum-known-found c = search needs
-
 returns : tie.Need-returns
 unfolding pathOf slaveOf startOf
 returns c =
@@ -35,4 +20,11 @@ returns-2 c =
 pub path-of-spec : {M : Type 1} → statement M
 path-of-spec =
     tie.close
-    (tie.spec level-of-requires allowance-of-requires slave-row-requires enum-told enum-known-found returns returns-2)
+    (tie.spec
+    (λ c κs. search needs)  -- level-of-requires
+    (λ c κs. search needs)  -- allowance-of-requires
+    (λ c κs. search needs)  -- slave-row-requires
+    (λ c. search needs)  -- enum-told
+    (λ c. search needs)  -- enum-known-found
+    returns
+    returns-2)

@@ -3,18 +3,6 @@ use mathlib.Core.Path.{sym, _∙_}
 use Rattle.act.proofs.released_by.Statement.{statement}
 use Rattle.act.proofs.released_by.Tie as tie
 
-enum-told : tie.Need-enum-told
-enum-told c = search needs
-
-enum-known-asked : tie.Need-enum-known-asked
-enum-known-asked c = search needs
-
-less-requires : tie.Need-less-requires
-less-requires c κs = search needs
-
-is-fair-requires : tie.Need-is-fair-requires
-is-fair-requires c κs = search needs
-
 returns : tie.Need-returns
 returns c = rw (c .before .before .before .before .asked .given .1, c .before .before .less .ensures, sym (c .before .is-fair .ensures) ∙ c .if1 .taken)
 
@@ -28,10 +16,10 @@ pub released-by-spec : {M : Type 1} → statement M
 released-by-spec =
     tie.close
     (tie.spec
-    enum-told
-    enum-known-asked
-    less-requires
-    is-fair-requires
+    (λ c. search needs)  -- enum-told
+    (λ c. search needs)  -- enum-known-asked
+    (λ c κs. search needs)  -- less-requires
+    (λ c κs. search needs)  -- is-fair-requires
     returns
     returns-2
     returns-3)

@@ -4,9 +4,6 @@ use mathlib.Core.Path.{refl, sym, _∙_}
 use Rattle.channel.proofs.clear_marks.Statement.{statement}
 use Rattle.channel.proofs.clear_marks.Tie as tie
 
-line-active-requires : tie.Need-line-active-requires
-line-active-requires c κs = search needs
-
 returns : tie.Need-returns
 unfolding cleared
 returns c = rw (sym (c .before .line-active .ensures) ∙ c .if1 .taken)
@@ -16,4 +13,7 @@ unfolding cleared
 returns-2 c = rw (sym (c .before .before .line-active .ensures) ∙ c .before .if1 .left)
 
 pub clear-marks-spec : {M : Type 1} → statement M
-clear-marks-spec = tie.close (tie.spec line-active-requires returns returns-2)
+clear-marks-spec = tie.close (tie.spec
+    (λ c κs. search needs)  -- line-active-requires
+    returns
+    returns-2)

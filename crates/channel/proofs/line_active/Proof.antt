@@ -16,36 +16,15 @@ Inv-loop left inactive owner level₀ level = (level ≤ places) × (anyBelow (d
 abbrev μ-loop : tie.MeasureT-loop
 μ-loop left inactive owner level₀ level = places - level
 
-owner-of-requires : tie.Need-owner-of-requires Inv-loop μ-loop
-owner-of-requires c κs = tt
-
-cast-owner : tie.Need-cast-owner Inv-loop μ-loop
-cast-owner c = search needs
-
 loop-holds : tie.Need-loop-holds Inv-loop μ-loop
 unfolding anyBelow
 loop-holds c = (omega arith, refl)
-
-mul-if1 : tie.Need-mul-if1 Inv-loop μ-loop
-mul-if1 c = omega arith
-
-element-copy-out-if1 : tie.Need-element-copy-out-if1 Inv-loop μ-loop
-element-copy-out-if1 c = omega arith
-
-element-copy-out-if1-2 : tie.Need-element-copy-out-if1-2 Inv-loop μ-loop
-element-copy-out-if1-2 c = omega arith
 
 returns : tie.Need-returns Inv-loop μ-loop
 unfolding lineActive drives
 returns c =
     let l = c .before .before .before .before .loop in
     rw (← c .before .before .before .before .before .owner-of .ensures) (sym (any-hit _ (l .level) places (omega arith) (c .if1 .taken)))
-
-add-level : tie.Need-add-level Inv-loop μ-loop
-add-level c = omega arith
-
-loop-less : tie.Need-loop-less Inv-loop μ-loop
-loop-less c = omega arith
 
 loop-again : tie.Need-loop-again Inv-loop μ-loop
 unfolding drives
@@ -65,14 +44,14 @@ line-active-spec =
     (tie.spec
     Inv-loop
     μ-loop
-    owner-of-requires
-    cast-owner
+    (λ c κs. tt)  -- owner-of-requires
+    (λ c. search needs)  -- cast-owner
     loop-holds
-    mul-if1
-    element-copy-out-if1
-    element-copy-out-if1-2
+    (λ c. omega arith)  -- mul-if1
+    (λ c. omega arith)  -- element-copy-out-if1
+    (λ c. omega arith)  -- element-copy-out-if1-2
     returns
-    add-level
-    loop-less
+    (λ c. omega arith)  -- add-level
+    (λ c. omega arith)  -- loop-less
     loop-again
     returns-2)

@@ -19,36 +19,6 @@ returns c =
     } in
     sym (no-place (a .channel) (a .level) (a .request) s (omega arith))
 
-mul-next : tie.Need-mul-next
-mul-next c = search needs
-
-element-write-next : tie.Need-element-write-next
-element-write-next c = search needs
-
-mul-next-2 : tie.Need-mul-next-2
-mul-next-2 c = search needs
-
-element-write-next-2 : tie.Need-element-write-next-2
-element-write-next-2 c = search needs
-
-mul-next-3 : tie.Need-mul-next-3
-mul-next-3 c = search needs
-
-element-write-next-3 : tie.Need-element-write-next-3
-element-write-next-3 c = search needs
-
-mul-next-4 : tie.Need-mul-next-4
-mul-next-4 c = search needs
-
-element-write-next-4 : tie.Need-element-write-next-4
-element-write-next-4 c = search needs
-
-mul-next-5 : tie.Need-mul-next-5
-mul-next-5 c = search needs
-
-element-write-next-5 : tie.Need-element-write-next-5
-element-write-next-5 c = search needs
-
 returns-2 : tie.Need-returns-2
 unfolding withRequest
 returns-2 c = refl
@@ -58,14 +28,14 @@ put-request-spec =
     tie.close
     (tie.spec
     returns
-    mul-next
-    element-write-next
-    mul-next-2
-    element-write-next-2
-    mul-next-3
-    element-write-next-3
-    mul-next-4
-    element-write-next-4
-    mul-next-5
-    element-write-next-5
+    (λ c. search needs)  -- mul-next
+    (λ c. search needs)  -- element-write-next
+    (λ c. search needs)  -- mul-next-2
+    (λ c. search needs)  -- element-write-next-2
+    (λ c. search needs)  -- mul-next-3
+    (λ c. search needs)  -- element-write-next-3
+    (λ c. search needs)  -- mul-next-4
+    (λ c. search needs)  -- element-write-next-4
+    (λ c. search needs)  -- mul-next-5
+    (λ c. search needs)  -- element-write-next-5
     returns-2)

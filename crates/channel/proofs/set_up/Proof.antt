@@ -4,12 +4,6 @@ use mathlib.Core.Path.{sym, _∙_}
 use Rattle.channel.proofs.set_up.Statement.{statement}
 use Rattle.channel.proofs.set_up.Tie as tie
 
-fresh-channel-requires : tie.Need-fresh-channel-requires
-fresh-channel-requires c κs = search needs
-
-is-framed-requires : tie.Need-is-framed-requires
-is-framed-requires c κs = search needs
-
 returns : tie.Need-returns
 unfolding setUp
 returns c = rw (c .before .before .fresh-channel .ensures, sym (c .before .is-framed .ensures) ∙ c .if1 .taken)
@@ -19,4 +13,8 @@ unfolding setUp
 returns-2 c = rw (c .before .before .fresh-channel .ensures, sym (c .before .is-framed .ensures) ∙ c .if1 .left)
 
 pub set-up-spec : {M : Type 1} → statement M
-set-up-spec = tie.close (tie.spec fresh-channel-requires is-framed-requires returns returns-2)
+set-up-spec = tie.close (tie.spec
+    (λ c κs. search needs)  -- fresh-channel-requires
+    (λ c κs. search needs)  -- is-framed-requires
+    returns
+    returns-2)

@@ -4,15 +4,6 @@ use mathlib.Core.Path.{sym, ap, _∙_}
 use Rattle.frame.proofs.is_present.Statement.{statement}
 use Rattle.frame.proofs.is_present.Tie as tie
 
-level-row-requires : tie.Need-level-row-requires
-level-row-requires c κs = search needs
-
-enum-told : tie.Need-enum-told
-enum-told c = search needs
-
-enum-told-2 : tie.Need-enum-told-2
-enum-told-2 c = search needs
-
 returns : tie.Need-returns
 unfolding isPresent
 returns c = ap isLevel (sym (c .enum-told .given .1) ∙ c .before .before .level-row .ensures)
@@ -22,4 +13,9 @@ unfolding isPresent
 returns-2 c = ap isLevel (sym (c .enum-told2 .given .1) ∙ c .before .before .level-row .ensures)
 
 pub is-present-spec : {M : Type 1} → statement M
-is-present-spec = tie.close (tie.spec level-row-requires enum-told enum-told-2 returns returns-2)
+is-present-spec = tie.close (tie.spec
+    (λ c κs. search needs)  -- level-row-requires
+    (λ c. search needs)  -- enum-told
+    (λ c. search needs)  -- enum-told-2
+    returns
+    returns-2)

@@ -7,15 +7,9 @@ use native.Mathlib.Omega.{arith}
 use Rattle.frame.proofs.is_within.Statement.{statement}
 use Rattle.frame.proofs.is_within.Tie as tie
 
-add-latest : tie.Need-add-latest
-add-latest c = search needs
-
 returns : tie.Need-returns
 unfolding isWithin
 returns c = sym (sum-beyond _ _ _ (c .if1 .taken))
-
-sub-result : tie.Need-sub-result
-sub-result c = search needs
 
 returns-2 : tie.Need-returns-2
 unfolding isWithin
@@ -24,4 +18,8 @@ returns-2 c =
     sum-within (a .duration) (a .clock) (a .t + a .allowed) (omega arith)
 
 pub is-within-spec : {M : Type 1} → statement M
-is-within-spec = tie.close (tie.spec add-latest returns sub-result returns-2)
+is-within-spec = tie.close (tie.spec
+    (λ c. search needs)  -- add-latest
+    returns
+    (λ c. search needs)  -- sub-result
+    returns-2)

@@ -4,15 +4,6 @@ use mathlib.Core.Path.{sym, ap, _∙_}
 use Rattle.frame.proofs.level_of.Statement.{statement}
 use Rattle.frame.proofs.level_of.Tie as tie
 
-level-row-requires : tie.Need-level-row-requires
-level-row-requires c κs = search needs
-
-enum-told : tie.Need-enum-told
-enum-told c = search needs
-
-enum-known-found : tie.Need-enum-known-found
-enum-known-found c = search needs
-
 returns : tie.Need-returns
 unfolding levelOf
 returns c = ap levelOr (sym (c .enum-told .given .1) ∙ c .before .before .level-row .ensures)
@@ -23,4 +14,9 @@ returns-2 c = ap levelOr (sym (c .before .found .given .1) ∙ c .before .before
 
 pub level-of-spec : {M : Type 1} → statement M
 level-of-spec =
-    tie.close (tie.spec level-row-requires enum-told enum-known-found returns returns-2)
+    tie.close (tie.spec
+    (λ c κs. search needs)  -- level-row-requires
+    (λ c. search needs)  -- enum-told
+    (λ c. search needs)  -- enum-known-found
+    returns
+    returns-2)

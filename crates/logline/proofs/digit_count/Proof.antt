@@ -6,14 +6,8 @@ use native.Mathlib.Omega.{arith}
 use Rattle.logline.proofs.digit_count.Statement.{statement}
 use Rattle.logline.proofs.digit_count.Tie as tie
 
-few-digits-requires : tie.Need-few-digits-requires
-few-digits-requires c κs = search needs
-
 returns : tie.Need-returns
 returns c = c .few-digits .ensures ∙ sym (size-enough 5 4 (c .before .before .args .n) (c .before .if1 .taken))
-
-few-digits-requires-2 : tie.Need-few-digits-requires-2
-few-digits-requires-2 c κs = search needs
 
 add-result : tie.Need-add-result
 add-result c = omega (arith, c .few-digits2 .ensures, digits-most 4 (c .before .before .args .n / 100000))
@@ -25,4 +19,9 @@ returns-2 c =
 
 pub digit-count-spec : {M : Type 1} → statement M
 digit-count-spec =
-    tie.close (tie.spec few-digits-requires returns few-digits-requires-2 add-result returns-2)
+    tie.close (tie.spec
+    (λ c κs. search needs)  -- few-digits-requires
+    returns
+    (λ c κs. search needs)  -- few-digits-requires-2
+    add-result
+    returns-2)

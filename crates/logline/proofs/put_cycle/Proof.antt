@@ -3,18 +3,6 @@ use borrow.Author.Needs.{needs}
 use Rattle.logline.proofs.put_cycle.Statement.{statement}
 use Rattle.logline.proofs.put_cycle.Tie as tie
 
-ending-number-requires : tie.Need-ending-number-requires
-ending-number-requires c κs = search needs
-
-cast-t7 : tie.Need-cast-t7
-cast-t7 c = search needs
-
-put-line-requires : tie.Need-put-line-requires
-put-line-requires c κs = search needs
-
-same-length : tie.Need-same-length
-same-length c = search needs
-
 returns : tie.Need-returns
 unfolding cycleFields
 returns c =
@@ -24,4 +12,9 @@ returns c =
 
 pub put-cycle-spec : {M : Type 1} → statement M
 put-cycle-spec =
-    tie.close (tie.spec ending-number-requires cast-t7 put-line-requires same-length returns)
+    tie.close (tie.spec
+    (λ c κs. search needs)  -- ending-number-requires
+    (λ c. search needs)  -- cast-t7
+    (λ c κs. search needs)  -- put-line-requires
+    (λ c. search needs)  -- same-length
+    returns)

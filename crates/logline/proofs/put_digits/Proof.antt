@@ -18,29 +18,11 @@ Inv-loop out₀ at n size rest₀ left₀ out rest left =
 abbrev μ-loop : tie.MeasureT-loop
 μ-loop out₀ at n size rest₀ left₀ out rest left = left
 
-add-out : tie.Need-add-out Inv-loop μ-loop
-add-out c = omega arith
-
-cast-out : tie.Need-cast-out Inv-loop μ-loop
-cast-out c = omega arith
-
-slice-write-out : tie.Need-slice-write-out Inv-loop μ-loop
-slice-write-out c = omega arith
-
-add-result : tie.Need-add-result Inv-loop μ-loop
-add-result c = omega arith
-
-same-length : tie.Need-same-length Inv-loop μ-loop
-same-length c = search needs
-
 returns : tie.Need-returns Inv-loop μ-loop
 returns c =
     let a = c .before .before .args in
     let e = digits-last 9 (a .n) (c .if1 .taken) in
     (ap (λ (d : List ℕ). a .at + length d) (sym e), ap (sets (now (a .out)) (a .at)) (sym e))
-
-digit-count-requires : tie.Need-digit-count-requires Inv-loop μ-loop
-digit-count-requires c κs = search needs
 
 loop-holds : tie.Need-loop-holds Inv-loop μ-loop
 loop-holds c =
@@ -51,23 +33,8 @@ loop-holds c =
       refl,
     )
 
-sub-left : tie.Need-sub-left Inv-loop μ-loop
-sub-left c = omega arith
-
-add-out-2 : tie.Need-add-out-2 Inv-loop μ-loop
-add-out-2 c = omega arith
-
-cast-out-2 : tie.Need-cast-out-2 Inv-loop μ-loop
-cast-out-2 c = omega arith
-
-add-out-3 : tie.Need-add-out-3 Inv-loop μ-loop
-add-out-3 c = omega arith
-
 slice-write-out-2 : tie.Need-slice-write-out-2 Inv-loop μ-loop
 slice-write-out-2 c = let l = c .before .loop in omega (arith, l .inv .0, l .inv .2)
-
-loop-less : tie.Need-loop-less Inv-loop μ-loop
-loop-less c = omega arith
 
 loop-again : tie.Need-loop-again Inv-loop μ-loop
 loop-again c =
@@ -101,20 +68,20 @@ put-digits-spec =
     (tie.spec
     Inv-loop
     μ-loop
-    add-out
-    cast-out
-    slice-write-out
-    add-result
-    same-length
+    (λ c. omega arith)  -- add-out
+    (λ c. omega arith)  -- cast-out
+    (λ c. omega arith)  -- slice-write-out
+    (λ c. omega arith)  -- add-result
+    (λ c. search needs)  -- same-length
     returns
-    digit-count-requires
+    (λ c κs. search needs)  -- digit-count-requires
     loop-holds
-    sub-left
-    add-out-2
-    cast-out-2
-    add-out-3
+    (λ c. omega arith)  -- sub-left
+    (λ c. omega arith)  -- add-out-2
+    (λ c. omega arith)  -- cast-out-2
+    (λ c. omega arith)  -- add-out-3
     slice-write-out-2
-    loop-less
+    (λ c. omega arith)  -- loop-less
     loop-again
     add-result-2
     same-length-2

@@ -10,12 +10,6 @@ use native.Mathlib.Omega.{arith}
 use Rattle.logline.proofs.put_field.Statement.{statement}
 use Rattle.logline.proofs.put_field.Tie as tie
 
-slice-write-out : tie.Need-slice-write-out
-slice-write-out c = search needs
-
-add-put-digits : tie.Need-add-put-digits
-add-put-digits c = search needs
-
 put-digits-requires : tie.Need-put-digits-requires
 put-digits-requires c κs = simp length-set (omega (arith, digits-most 9 (c .before .before .args .n)))
 
@@ -30,4 +24,9 @@ returns c =
 
 pub put-field-spec : {M : Type 1} → statement M
 put-field-spec =
-    tie.close (tie.spec slice-write-out add-put-digits put-digits-requires same-length returns)
+    tie.close (tie.spec
+    (λ c. search needs)  -- slice-write-out
+    (λ c. search needs)  -- add-put-digits
+    put-digits-requires
+    same-length
+    returns)

@@ -27,9 +27,6 @@ Inv-loop out₀ at letter count numbers next₀ i₀ out next i =
 abbrev μ-loop : tie.MeasureT-loop
 μ-loop out₀ at letter count numbers next₀ i₀ out next i = count - i
 
-has-room-requires : tie.Need-has-room-requires Inv-loop μ-loop
-has-room-requires c κs = tt
-
 returns : tie.Need-returns Inv-loop μ-loop
 unfolding past written
 returns c =
@@ -52,22 +49,10 @@ loop-holds c =
     let room = room-is (length (a .out .now)) (a .at) (c .before .has-room .ensures) (c .if1 .left) in
     (omega arith, omega arith, rw sub-zero, rw sub-zero, refl, rw length-set room)
 
-mul-put-field : tie.Need-mul-put-field Inv-loop μ-loop
-mul-put-field c = search needs
-
-array-read-put-field : tie.Need-array-read-put-field Inv-loop μ-loop
-array-read-put-field c = omega arith
-
 put-field-requires : tie.Need-put-field-requires Inv-loop μ-loop
 put-field-requires c κs =
     let l = c .before .before .loop in
     omega (arith, l .inv .1, l .inv .4, l .inv .5)
-
-add-i : tie.Need-add-i Inv-loop μ-loop
-add-i c = omega arith
-
-loop-less : tie.Need-loop-less Inv-loop μ-loop
-loop-less c = omega arith
 
 loop-again : tie.Need-loop-again Inv-loop μ-loop
 loop-again c =
@@ -119,16 +104,16 @@ put-line-spec =
     (tie.spec
     Inv-loop
     μ-loop
-    has-room-requires
+    (λ c κs. tt)  -- has-room-requires
     returns
     slice-write-out
     add-next
     loop-holds
-    mul-put-field
-    array-read-put-field
+    (λ c. search needs)  -- mul-put-field
+    (λ c. omega arith)  -- array-read-put-field
     put-field-requires
-    add-i
-    loop-less
+    (λ c. omega arith)  -- add-i
+    (λ c. omega arith)  -- loop-less
     loop-again
     slice-write-out-2
     add-result

@@ -3,15 +3,6 @@ use borrow.Author.Needs.{needs}
 use Rattle.post.proofs.post.Statement.{statement}
 use Rattle.post.proofs.post.Tie as tie
 
-post-verdict-requires : tie.Need-post-verdict-requires
-post-verdict-requires c κs = search needs
-
-is-accepted-requires : tie.Need-is-accepted-requires
-is-accepted-requires c κs = search needs
-
-accepted-requires : tie.Need-accepted-requires
-accepted-requires c κs = search needs
-
 returns : tie.Need-returns
 unfolding postOf
 returns c = rw (c .accepted .ensures, ← c .before .before .before .post-verdict .ensures, ← c .before .before .is-accepted .ensures, c .before .if1 .taken)
@@ -23,4 +14,9 @@ returns-2 c = rw (← c .before .before .post-verdict .ensures, ← c .before .i
 pub post-spec : {M : Type 1} → statement M
 post-spec =
     tie.close
-    (tie.spec post-verdict-requires is-accepted-requires accepted-requires returns returns-2)
+    (tie.spec
+    (λ c κs. search needs)  -- post-verdict-requires
+    (λ c κs. search needs)  -- is-accepted-requires
+    (λ c κs. search needs)  -- accepted-requires
+    returns
+    returns-2)

@@ -5,18 +5,6 @@ use mathlib.Core.Path.{sym, _∙_}
 use Rattle.post.proofs.post_verdict.Statement.{statement}
 use Rattle.post.proofs.post_verdict.Tie as tie
 
-sound-store-requires : tie.Need-sound-store-requires
-sound-store-requires c κs = search needs
-
-enum-told : tie.Need-enum-told
-enum-told c = search needs
-
-enum-told-2 : tie.Need-enum-told-2
-enum-told-2 c = search needs
-
-order-verdict-requires : tie.Need-order-verdict-requires
-order-verdict-requires c κs = search needs
-
 returns : tie.Need-returns
 unfolding postVerdict
 returns c = rw (store-nine _ _ (sym (c .before .before .sound-store .ensures) ∙ c .enum-told .given .1))
@@ -31,4 +19,10 @@ returns-2 c =
 
 pub post-verdict-spec : {M : Type 1} → statement M
 post-verdict-spec =
-    tie.close (tie.spec sound-store-requires enum-told enum-told-2 order-verdict-requires returns returns-2)
+    tie.close (tie.spec
+    (λ c κs. search needs)  -- sound-store-requires
+    (λ c. search needs)  -- enum-told
+    (λ c. search needs)  -- enum-told-2
+    (λ c κs. search needs)  -- order-verdict-requires
+    returns
+    returns-2)

@@ -16,28 +16,10 @@ Inv-loop list i₀ sum₀ i sum = (i ≤ length list) × (sum ≤ 5 * i) × (sum
 abbrev μ-loop : tie.MeasureT-loop
 μ-loop list i₀ sum₀ i sum = length list - i
 
-loop-holds : tie.Need-loop-holds Inv-loop μ-loop
-loop-holds c = omega arith
-
-mul-number-size : tie.Need-mul-number-size Inv-loop μ-loop
-mul-number-size c = omega arith
-
-shared-slice-read-number-size : tie.Need-shared-slice-read-number-size Inv-loop μ-loop
-shared-slice-read-number-size c = omega arith
-
-number-size-requires : tie.Need-number-size-requires Inv-loop μ-loop
-number-size-requires c κs = tt
-
 add-sum : tie.Need-add-sum Inv-loop μ-loop
 add-sum c =
     let a = c .before .before .before .before .before .args in
     omega (arith, bytes-most (getD (now (a .list)) (c .before .before .before .loop .i) 0))
-
-add-i : tie.Need-add-i Inv-loop μ-loop
-add-i c = omega arith
-
-loop-less : tie.Need-loop-less Inv-loop μ-loop
-loop-less c = omega arith
 
 loop-again : tie.Need-loop-again Inv-loop μ-loop
 loop-again c =
@@ -55,12 +37,12 @@ bytes-size-spec =
     (tie.spec
     Inv-loop
     μ-loop
-    loop-holds
-    mul-number-size
-    shared-slice-read-number-size
-    number-size-requires
+    (λ c. omega arith)  -- loop-holds
+    (λ c. omega arith)  -- mul-number-size
+    (λ c. omega arith)  -- shared-slice-read-number-size
+    (λ c κs. tt)  -- number-size-requires
     add-sum
-    add-i
-    loop-less
+    (λ c. omega arith)  -- add-i
+    (λ c. omega arith)  -- loop-less
     loop-again
     returns)

@@ -28,15 +28,6 @@ loop-holds : tie.Need-loop-holds Inv-loop μ-loop
 unfolding numbersOf
 loop-holds c = (omega arith, omega arith, rw (sub-zero, zero-add), rw sub-zero, refl)
 
-read-number-requires : tie.Need-read-number-requires Inv-loop μ-loop
-read-number-requires c κs = tt
-
-enum-known-got : tie.Need-enum-known-got Inv-loop μ-loop
-enum-known-got c = search needs
-
-mul-out : tie.Need-mul-out Inv-loop μ-loop
-mul-out c = omega arith
-
 slice-write-out : tie.Need-slice-write-out Inv-loop μ-loop
 slice-write-out c =
     let a = c .before .before .before .before .before .before .before .before .args in
@@ -49,9 +40,6 @@ slice-write-out c =
       ap length
           (numbers-on (readAt s) (l .at) more (sym (c .before .before .before .read-number .ensures) ∙ c .before .got .given .1)),
     )
-
-add-i : tie.Need-add-i Inv-loop μ-loop
-add-i c = omega arith
 
 loop-less : tie.Need-loop-less Inv-loop μ-loop
 loop-less c =
@@ -77,9 +65,6 @@ loop-again c =
       stored-on (readAt s) (l .at) more (l .out) (l .i) r ∙ l .inv .3,
       simp length-set (l .inv .4),
     )
-
-enum-told : tie.Need-enum-told Inv-loop μ-loop
-enum-told c = search needs
 
 same-length : tie.Need-same-length Inv-loop μ-loop
 same-length c = c .before .before .before .before .loop .inv .4
@@ -110,14 +95,14 @@ copy-numbers-spec =
     Inv-loop
     μ-loop
     loop-holds
-    read-number-requires
-    enum-known-got
-    mul-out
+    (λ c κs. tt)  -- read-number-requires
+    (λ c. search needs)  -- enum-known-got
+    (λ c. omega arith)  -- mul-out
     slice-write-out
-    add-i
+    (λ c. omega arith)  -- add-i
     loop-less
     loop-again
-    enum-told
+    (λ c. search needs)  -- enum-told
     same-length
     returns
     same-length-2

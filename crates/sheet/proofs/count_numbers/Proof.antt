@@ -25,15 +25,6 @@ loop-holds : tie.Need-loop-holds Inv-loop μ-loop
 unfolding numbersOf
 loop-holds c = (omega arith, omega arith, rw (sub-zero, zero-add))
 
-read-number-requires : tie.Need-read-number-requires Inv-loop μ-loop
-read-number-requires c κs = tt
-
-enum-known-got : tie.Need-enum-known-got Inv-loop μ-loop
-enum-known-got c = search needs
-
-enum-told : tie.Need-enum-told Inv-loop μ-loop
-enum-told c = search needs
-
 returns : tie.Need-returns Inv-loop μ-loop
 returns c =
     let a = c .before .before .before .before .before .before .args in
@@ -45,9 +36,6 @@ returns c =
       ap length
           (numbers-end (readAt s) (length s - l .count) (l .at) (sym (c .before .before .read-number .ensures) ∙ c .enum-told .given .1)),
     )
-
-add-count : tie.Need-add-count Inv-loop μ-loop
-add-count c = omega arith
 
 loop-less : tie.Need-loop-less Inv-loop μ-loop
 loop-less c =
@@ -86,11 +74,11 @@ count-numbers-spec =
     Inv-loop
     μ-loop
     loop-holds
-    read-number-requires
-    enum-known-got
-    enum-told
+    (λ c κs. tt)  -- read-number-requires
+    (λ c. search needs)  -- enum-known-got
+    (λ c. search needs)  -- enum-told
     returns
-    add-count
+    (λ c. omega arith)  -- add-count
     loop-less
     loop-again
     returns-2)

@@ -6,27 +6,12 @@ use mathlib.Core.Path.{sym, ap, _∙_}
 use Rattle.sheet.proofs.judge_event.Statement.{statement}
 use Rattle.sheet.proofs.judge_event.Tie as tie
 
-number-between-requires : tie.Need-number-between-requires
-number-between-requires c κs = search needs
-
-enum-known-got : tie.Need-enum-known-got
-enum-known-got c = search needs
-
-enum-known-got-2 : tie.Need-enum-known-got-2
-enum-known-got-2 c = search needs
-
-judge-step-count-requires : tie.Need-judge-step-count-requires
-judge-step-count-requires c κs = search needs
-
 returns : tie.Need-returns
 unfolding event
 returns c = rw (
   sym (c .before .before .before .before .before .number-between .ensures) ∙ c .before .before .before .got2 .given .1,
   eq-eqb _ _ (c .before .if1 .taken),
 ) (c .judge-step-count .ensures)
-
-numbers-at-requires : tie.Need-numbers-at-requires
-numbers-at-requires c κs = search needs
 
 returns-2 : tie.Need-returns-2
 unfolding event
@@ -43,11 +28,11 @@ pub judge-event-spec : {M : Type 1} → statement M
 judge-event-spec =
     tie.close
     (tie.spec
-    number-between-requires
-    enum-known-got
-    enum-known-got-2
-    judge-step-count-requires
+    (λ c κs. search needs)  -- number-between-requires
+    (λ c. search needs)  -- enum-known-got
+    (λ c. search needs)  -- enum-known-got-2
+    (λ c κs. search needs)  -- judge-step-count-requires
     returns
-    numbers-at-requires
+    (λ c κs. search needs)  -- numbers-at-requires
     returns-2
     returns-3)

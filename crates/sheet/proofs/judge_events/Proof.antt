@@ -20,15 +20,6 @@ abbrev μ-loop : tie.MeasureT-loop
 loop-holds : tie.Need-loop-holds Inv-loop μ-loop
 loop-holds c = refl
 
-judge-event-requires : tie.Need-judge-event-requires Inv-loop μ-loop
-judge-event-requires c κs = tt
-
-enum-known-judged : tie.Need-enum-known-judged Inv-loop μ-loop
-enum-known-judged c = search needs
-
-enum-told : tie.Need-enum-told Inv-loop μ-loop
-enum-told c = search needs
-
 returns : tie.Need-returns Inv-loop μ-loop
 returns c =
     let a = c .before .before .before .before .before .before .before .args in
@@ -37,12 +28,6 @@ returns c =
     let more : l .left ≡ suc (l .left - 1) = omega arith in
     c .enum-told .given .1
     ∙ sym (events-fault src (l .place) more (sym (c .before .before .judge-event .ensures) ∙ c .enum-told .given .1)) ∙ l .inv
-
-sub-left : tie.Need-sub-left Inv-loop μ-loop
-sub-left c = omega arith
-
-loop-less : tie.Need-loop-less Inv-loop μ-loop
-loop-less c = omega arith
 
 loop-again : tie.Need-loop-again Inv-loop μ-loop
 loop-again c =
@@ -64,11 +49,11 @@ judge-events-spec =
     Inv-loop
     μ-loop
     loop-holds
-    judge-event-requires
-    enum-known-judged
-    enum-told
+    (λ c κs. tt)  -- judge-event-requires
+    (λ c. search needs)  -- enum-known-judged
+    (λ c. search needs)  -- enum-told
     returns
-    sub-left
-    loop-less
+    (λ c. omega arith)  -- sub-left
+    (λ c. omega arith)  -- loop-less
     loop-again
     returns-2)

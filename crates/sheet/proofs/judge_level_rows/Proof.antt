@@ -29,15 +29,6 @@ abbrev μ-loop : tie.MeasureT-loop
 loop-holds : tie.Need-loop-holds Inv-loop μ-loop
 loop-holds c = (omega arith, rw sub-zero, refl)
 
-level-at-requires : tie.Need-level-at-requires Inv-loop μ-loop
-level-at-requires c κs = tt
-
-enum-known-judged : tie.Need-enum-known-judged Inv-loop μ-loop
-enum-known-judged c = search needs
-
-enum-told : tie.Need-enum-told Inv-loop μ-loop
-enum-told c = search needs
-
 returns : tie.Need-returns Inv-loop μ-loop
 returns c =
     let a = c .before .before .before .before .before .before .before .args in
@@ -48,15 +39,6 @@ returns c =
     c .enum-told .given .1
     ∙ sym (rows-fault src (l .place) more levels (l .i) table
     (sym (ap (λ (r : LevelRead). r .judged) (c .before .before .level-at .ensures)) ∙ c .enum-told .given .1)) ∙ l .inv .1
-
-mul-rows : tie.Need-mul-rows Inv-loop μ-loop
-mul-rows c = omega arith
-
-array-set-from-rows : tie.Need-array-set-from-rows Inv-loop μ-loop
-array-set-from-rows c = omega arith
-
-level-row-fits-requires : tie.Need-level-row-fits-requires Inv-loop μ-loop
-level-row-fits-requires c κs = tt
 
 returns-2 : tie.Need-returns-2 Inv-loop μ-loop
 returns-2 c =
@@ -71,12 +53,6 @@ returns-2 c =
     (c .before .before .before .before .before .before .level-at .ensures) in
     sym (rows-not src (l .place) more levels (l .i) table read put
     (sym (c .before .level-row-fits .ensures) ∙ not-true _ (c .if1 .taken))) ∙ l .inv .1
-
-add-i : tie.Need-add-i Inv-loop μ-loop
-add-i c = omega arith
-
-loop-less : tie.Need-loop-less Inv-loop μ-loop
-loop-less c = omega arith
 
 loop-again : tie.Need-loop-again Inv-loop μ-loop
 loop-again c =
@@ -107,15 +83,15 @@ judge-level-rows-spec =
     Inv-loop
     μ-loop
     loop-holds
-    level-at-requires
-    enum-known-judged
-    enum-told
+    (λ c κs. tt)  -- level-at-requires
+    (λ c. search needs)  -- enum-known-judged
+    (λ c. search needs)  -- enum-told
     returns
-    mul-rows
-    array-set-from-rows
-    level-row-fits-requires
+    (λ c. omega arith)  -- mul-rows
+    (λ c. omega arith)  -- array-set-from-rows
+    (λ c κs. tt)  -- level-row-fits-requires
     returns-2
-    add-i
-    loop-less
+    (λ c. omega arith)  -- add-i
+    (λ c. omega arith)  -- loop-less
     loop-again
     returns-3)

@@ -6,18 +6,6 @@ use mathlib.Core.Path.{sym, _∙_}
 use Rattle.sheet.proofs.judge_slaves.Statement.{statement}
 use Rattle.sheet.proofs.judge_slaves.Tie as tie
 
-number-between-requires : tie.Need-number-between-requires
-number-between-requires c κs = search needs
-
-enum-known-got : tie.Need-enum-known-got
-enum-known-got c = search needs
-
-enum-known-got-2 : tie.Need-enum-known-got-2
-enum-known-got-2 c = search needs
-
-cast-judge-slave-rows : tie.Need-cast-judge-slave-rows
-cast-judge-slave-rows c = search needs
-
 judge-slave-rows-requires : tie.Need-judge-slave-rows-requires
 judge-slave-rows-requires c κs = at-most _ 1 rowsMost _ _ (c .before .before .before .number-between .ensures) (c .before .got2 .given .1)
 
@@ -34,10 +22,10 @@ pub judge-slaves-spec : {M : Type 1} → statement M
 judge-slaves-spec =
     tie.close
     (tie.spec
-    number-between-requires
-    enum-known-got
-    enum-known-got-2
-    cast-judge-slave-rows
+    (λ c κs. search needs)  -- number-between-requires
+    (λ c. search needs)  -- enum-known-got
+    (λ c. search needs)  -- enum-known-got-2
+    (λ c. search needs)  -- cast-judge-slave-rows
     judge-slave-rows-requires
     returns
     returns-2)

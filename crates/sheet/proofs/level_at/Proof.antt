@@ -5,18 +5,6 @@ use denote.Ref.{now}
 use Rattle.sheet.proofs.level_at.Statement.{statement}
 use Rattle.sheet.proofs.level_at.Tie as tie
 
-numbers-at-requires : tie.Need-numbers-at-requires
-numbers-at-requires c κs = search needs
-
-array-read-t11 : tie.Need-array-read-t11
-array-read-t11 c = search needs
-
-array-read-t14 : tie.Need-array-read-t14
-array-read-t14 c = search needs
-
-array-read-t17 : tie.Need-array-read-t17
-array-read-t17 c = search needs
-
 returns : tie.Need-returns
 returns c =
     let a = c .before .before .before .before .args in
@@ -25,4 +13,9 @@ returns c =
 
 pub level-at-spec : {M : Type 1} → statement M
 level-at-spec =
-    tie.close (tie.spec numbers-at-requires array-read-t11 array-read-t14 array-read-t17 returns)
+    tie.close (tie.spec
+    (λ c κs. search needs)  -- numbers-at-requires
+    (λ c. search needs)  -- array-read-t11
+    (λ c. search needs)  -- array-read-t14
+    (λ c. search needs)  -- array-read-t17
+    returns)

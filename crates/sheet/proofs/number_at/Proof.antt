@@ -4,15 +4,6 @@ use borrow.Author.Tests.{lt-ltb, le-ltb}
 use Rattle.sheet.proofs.number_at.Statement.{statement}
 use Rattle.sheet.proofs.number_at.Tie as tie
 
-mul-t8 : tie.Need-mul-t8
-mul-t8 c = search needs
-
-shared-slice-read-t10 : tie.Need-shared-slice-read-t10
-shared-slice-read-t10 c = search needs
-
-add-t11 : tie.Need-add-t11
-add-t11 c = search needs
-
 returns : tie.Need-returns
 unfolding listAt
 returns c = rw (c .before .before .if1 .taken) (rw (lt-ltb _ _ (c .before .if2 .taken)))
@@ -21,9 +12,6 @@ returns-2 : tie.Need-returns-2
 unfolding listAt
 returns-2 c = rw (c .before .if1 .taken) (rw (le-ltb _ _ (c .if2 .left)))
 
-read-number-requires : tie.Need-read-number-requires
-read-number-requires c κs = search needs
-
 returns-3 : tie.Need-returns-3
 returns-3 c = rw (c .before .if1 .left) (c .read-number .ensures)
 
@@ -31,10 +19,10 @@ pub number-at-spec : {M : Type 1} → statement M
 number-at-spec =
     tie.close
     (tie.spec
-    mul-t8
-    shared-slice-read-t10
-    add-t11
+    (λ c. search needs)  -- mul-t8
+    (λ c. search needs)  -- shared-slice-read-t10
+    (λ c. search needs)  -- add-t11
     returns
     returns-2
-    read-number-requires
+    (λ c κs. search needs)  -- read-number-requires
     returns-3)

@@ -4,15 +4,6 @@ use mathlib.Core.Path.{sym, _∙_}
 use Rattle.sheet.proofs.number_between.Statement.{statement}
 use Rattle.sheet.proofs.number_between.Tie as tie
 
-number-at-requires : tie.Need-number-at-requires
-number-at-requires c κs = search needs
-
-enum-known-got : tie.Need-enum-known-got
-enum-known-got c = search needs
-
-enum-known-got-2 : tie.Need-enum-known-got-2
-enum-known-got-2 c = search needs
-
 returns : tie.Need-returns
 unfolding between
 returns c = rw (sym (c .before .before .before .before .number-at .ensures) ∙ c .before .before .got2 .given .1, c .if1 .taken)
@@ -28,4 +19,10 @@ returns-3 c = rw (sym (c .before .before .before .before .number-at .ensures) �
 pub number-between-spec : {M : Type 1} → statement M
 number-between-spec =
     tie.close
-    (tie.spec number-at-requires enum-known-got enum-known-got-2 returns returns-2 returns-3)
+    (tie.spec
+    (λ c κs. search needs)  -- number-at-requires
+    (λ c. search needs)  -- enum-known-got
+    (λ c. search needs)  -- enum-known-got-2
+    returns
+    returns-2
+    returns-3)

@@ -25,24 +25,6 @@ abbrev μ-loop : tie.MeasureT-loop
 loop-holds : tie.Need-loop-holds Inv-loop μ-loop
 loop-holds c = (omega arith, rw sub-zero, rw sub-zero, refl)
 
-number-at-requires : tie.Need-number-at-requires Inv-loop μ-loop
-number-at-requires c κs = tt
-
-enum-known-got : tie.Need-enum-known-got Inv-loop μ-loop
-enum-known-got c = search needs
-
-mul-values : tie.Need-mul-values Inv-loop μ-loop
-mul-values c = omega arith
-
-array-write-values : tie.Need-array-write-values Inv-loop μ-loop
-array-write-values c = omega arith
-
-add-i : tie.Need-add-i Inv-loop μ-loop
-add-i c = omega arith
-
-loop-less : tie.Need-loop-less Inv-loop μ-loop
-loop-less c = omega arith
-
 loop-again : tie.Need-loop-again Inv-loop μ-loop
 loop-again c =
     let a = c .before .before .before .before .before .before .before .before .args in
@@ -55,9 +37,6 @@ loop-again c =
       stored-on src (l .place) more (l .values) (l .i) r ∙ l .inv .2,
       simp length-set (l .inv .3),
     )
-
-enum-known-got-2 : tie.Need-enum-known-got-2 Inv-loop μ-loop
-enum-known-got-2 c = search needs
 
 returns : tie.Need-returns Inv-loop μ-loop
 returns c =
@@ -84,13 +63,13 @@ numbers-at-spec =
     Inv-loop
     μ-loop
     loop-holds
-    number-at-requires
-    enum-known-got
-    mul-values
-    array-write-values
-    add-i
-    loop-less
+    (λ c κs. tt)  -- number-at-requires
+    (λ c. search needs)  -- enum-known-got
+    (λ c. omega arith)  -- mul-values
+    (λ c. omega arith)  -- array-write-values
+    (λ c. omega arith)  -- add-i
+    (λ c. omega arith)  -- loop-less
     loop-again
-    enum-known-got-2
+    (λ c. search needs)  -- enum-known-got-2
     returns
     returns-2)

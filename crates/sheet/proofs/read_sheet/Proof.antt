@@ -8,33 +8,12 @@ use mathlib.Core.Path.{sym, _∙_}
 use Rattle.sheet.proofs.read_sheet.Statement.{statement}
 use Rattle.sheet.proofs.read_sheet.Tie as tie
 
-slice-aggregate-judge : tie.Need-slice-aggregate-judge
-slice-aggregate-judge c = search needs
-
-judge-requires : tie.Need-judge-requires
-judge-requires c κs = search needs
-
-enum-known-judged : tie.Need-enum-known-judged
-enum-known-judged c = search needs
-
-enum-told : tie.Need-enum-told
-enum-told c = search needs
-
-count-numbers-requires : tie.Need-count-numbers-requires
-count-numbers-requires c κs = search needs
-
-copy-numbers-requires : tie.Need-copy-numbers-requires
-copy-numbers-requires c κs = search needs
-
 returns : tie.Need-returns
 unfolding readAnswer readStored
 returns c =
     let a = c .before .before .before .before .before .before .before .args in
     answer-fault (sheet (readAt (now (a .bytes))) (length (now (a .bytes)))) (numbersOf (now (a .bytes))) (now (a .out))
     (sym (c .before .before .before .judge .ensures) ∙ c .before .judged .given .1)
-
-same-length : tie.Need-same-length
-same-length c = search needs
 
 returns-2 : tie.Need-returns-2
 unfolding readAnswer readStored
@@ -58,13 +37,13 @@ pub read-sheet-spec : {M : Type 1} → statement M
 read-sheet-spec =
     tie.close
     (tie.spec
-    slice-aggregate-judge
-    judge-requires
-    enum-known-judged
-    enum-told
-    count-numbers-requires
-    copy-numbers-requires
+    (λ c. search needs)  -- slice-aggregate-judge
+    (λ c κs. search needs)  -- judge-requires
+    (λ c. search needs)  -- enum-known-judged
+    (λ c. search needs)  -- enum-told
+    (λ c κs. search needs)  -- count-numbers-requires
+    (λ c κs. search needs)  -- copy-numbers-requires
     returns
-    same-length
+    (λ c. search needs)  -- same-length
     returns-2
     returns-3)

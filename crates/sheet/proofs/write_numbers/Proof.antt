@@ -24,24 +24,6 @@ abbrev μ-loop : tie.MeasureT-loop
 loop-holds : tie.Need-loop-holds Inv-loop μ-loop
 loop-holds c = (omega arith, omega arith, refl, refl)
 
-mul-write-number : tie.Need-mul-write-number Inv-loop μ-loop
-mul-write-number c = search needs
-
-shared-slice-read-write-number : tie.Need-shared-slice-read-write-number Inv-loop μ-loop
-shared-slice-read-write-number c = omega arith
-
-write-number-requires : tie.Need-write-number-requires Inv-loop μ-loop
-write-number-requires c κs = tt
-
-enum-known-written : tie.Need-enum-known-written Inv-loop μ-loop
-enum-known-written c = search needs
-
-add-i : tie.Need-add-i Inv-loop μ-loop
-add-i c = omega arith
-
-loop-less : tie.Need-loop-less Inv-loop μ-loop
-loop-less c = omega arith
-
 loop-again : tie.Need-loop-again Inv-loop μ-loop
 loop-again c =
     let a = c .before .before .before .before .before .before .before .before .before .before .before .before .args in
@@ -58,9 +40,6 @@ loop-again c =
           ∙ l .inv .2,
       c .before .before .before .before .before .write-number .kept .0 ∙ l .inv .3,
     )
-
-enum-told : tie.Need-enum-told Inv-loop μ-loop
-enum-told c = search needs
 
 same-length : tie.Need-same-length Inv-loop μ-loop
 same-length c =
@@ -98,14 +77,14 @@ write-numbers-spec =
     Inv-loop
     μ-loop
     loop-holds
-    mul-write-number
-    shared-slice-read-write-number
-    write-number-requires
-    enum-known-written
-    add-i
-    loop-less
+    (λ c. search needs)  -- mul-write-number
+    (λ c. omega arith)  -- shared-slice-read-write-number
+    (λ c κs. tt)  -- write-number-requires
+    (λ c. search needs)  -- enum-known-written
+    (λ c. omega arith)  -- add-i
+    (λ c. omega arith)  -- loop-less
     loop-again
-    enum-told
+    (λ c. search needs)  -- enum-told
     same-length
     returns
     same-length-2

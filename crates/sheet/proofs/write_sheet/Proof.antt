@@ -7,33 +7,12 @@ use mathlib.Core.Path.{sym, _∙_}
 use Rattle.sheet.proofs.write_sheet.Statement.{statement}
 use Rattle.sheet.proofs.write_sheet.Tie as tie
 
-slice-aggregate-judge : tie.Need-slice-aggregate-judge
-slice-aggregate-judge c = search needs
-
-judge-requires : tie.Need-judge-requires
-judge-requires c κs = search needs
-
-enum-known-judged : tie.Need-enum-known-judged
-enum-known-judged c = search needs
-
-enum-told : tie.Need-enum-told
-enum-told c = search needs
-
-bytes-size-requires : tie.Need-bytes-size-requires
-bytes-size-requires c κs = search needs
-
-write-numbers-requires : tie.Need-write-numbers-requires
-write-numbers-requires c κs = search needs
-
 returns : tie.Need-returns
 unfolding writeAnswer writeStored
 returns c =
     let a = c .before .before .before .before .before .before .before .args in
     answer-fault (sheet (listAt (now (a .list))) (length (now (a .list)))) (allBytes (now (a .list))) (now (a .out))
     (sym (c .before .before .before .judge .ensures) ∙ c .before .judged .given .1)
-
-same-length : tie.Need-same-length
-same-length c = search needs
 
 returns-2 : tie.Need-returns-2
 unfolding writeAnswer writeStored
@@ -57,13 +36,13 @@ pub write-sheet-spec : {M : Type 1} → statement M
 write-sheet-spec =
     tie.close
     (tie.spec
-    slice-aggregate-judge
-    judge-requires
-    enum-known-judged
-    enum-told
-    bytes-size-requires
-    write-numbers-requires
+    (λ c. search needs)  -- slice-aggregate-judge
+    (λ c κs. search needs)  -- judge-requires
+    (λ c. search needs)  -- enum-known-judged
+    (λ c. search needs)  -- enum-told
+    (λ c κs. search needs)  -- bytes-size-requires
+    (λ c κs. search needs)  -- write-numbers-requires
     returns
-    same-length
+    (λ c. search needs)  -- same-length
     returns-2
     returns-3)

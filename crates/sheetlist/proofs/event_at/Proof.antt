@@ -11,24 +11,9 @@ returns c =
     let a = c .before .before .args in
     event-none (now (a .list)) (a .at) (c .if1 .taken)
 
-mul-if2 : tie.Need-mul-if2
-mul-if2 c = search needs
-
-shared-slice-read-if2 : tie.Need-shared-slice-read-if2
-shared-slice-read-if2 c = search needs
-
-add-number-in : tie.Need-add-number-in
-add-number-in c = search needs
-
-number-in-requires : tie.Need-number-in-requires
-number-in-requires c κs = search needs
-
 returns-2 : tie.Need-returns-2
 unfolding eventAt
 returns-2 c = rw (eq-eqb _ _ (c .before .if2 .taken), c .number-in .ensures)
-
-post-at-requires : tie.Need-post-at-requires
-post-at-requires c κs = search needs
 
 returns-3 : tie.Need-returns-3
 unfolding eventAt
@@ -39,10 +24,10 @@ event-at-spec =
     tie.close
     (tie.spec
     returns
-    mul-if2
-    shared-slice-read-if2
-    add-number-in
-    number-in-requires
+    (λ c. search needs)  -- mul-if2
+    (λ c. search needs)  -- shared-slice-read-if2
+    (λ c. search needs)  -- add-number-in
+    (λ c κs. search needs)  -- number-in-requires
     returns-2
-    post-at-requires
+    (λ c κs. search needs)  -- post-at-requires
     returns-3)

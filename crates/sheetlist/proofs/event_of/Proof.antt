@@ -13,28 +13,13 @@ Inv-loop list i at₀ k₀ at k = (k ≤ i) × (at ≡ eventFrom list k)
 abbrev μ-loop : tie.MeasureT-loop
 μ-loop list i at₀ k₀ at k = i - k
 
-first-event-requires : tie.Need-first-event-requires Inv-loop μ-loop
-first-event-requires c κs = tt
-
 loop-holds : tie.Need-loop-holds Inv-loop μ-loop
 unfolding eventFrom
 loop-holds c = (omega arith, c .first-event .ensures)
 
-next-event-requires : tie.Need-next-event-requires Inv-loop μ-loop
-next-event-requires c κs = tt
-
-add-k : tie.Need-add-k Inv-loop μ-loop
-add-k c = omega arith
-
-loop-less : tie.Need-loop-less Inv-loop μ-loop
-loop-less c = omega arith
-
 loop-again : tie.Need-loop-again Inv-loop μ-loop
 unfolding eventFrom
 loop-again c = (omega arith, rw (c .next-event .ensures, c .before .before .loop .inv .1, add-one))
-
-event-at-requires : tie.Need-event-at-requires Inv-loop μ-loop
-event-at-requires c κs = tt
 
 returns : tie.Need-returns Inv-loop μ-loop
 unfolding eventOf
@@ -50,11 +35,11 @@ event-of-spec =
     (tie.spec
     Inv-loop
     μ-loop
-    first-event-requires
+    (λ c κs. tt)  -- first-event-requires
     loop-holds
-    next-event-requires
-    add-k
-    loop-less
+    (λ c κs. tt)  -- next-event-requires
+    (λ c. omega arith)  -- add-k
+    (λ c. omega arith)  -- loop-less
     loop-again
-    event-at-requires
+    (λ c κs. tt)  -- event-at-requires
     returns)

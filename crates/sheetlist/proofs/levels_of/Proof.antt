@@ -19,38 +19,8 @@ Inv-loop list count present rows₀ i₀ rows i = (i ≤ present) ×
 abbrev μ-loop : tie.MeasureT-loop
 μ-loop list count present rows₀ i₀ rows i = present - i
 
-number-in-requires : tie.Need-number-in-requires Inv-loop μ-loop
-number-in-requires c κs = tt
-
-smaller-requires : tie.Need-smaller-requires Inv-loop μ-loop
-smaller-requires c κs = tt
-
-cast-present : tie.Need-cast-present Inv-loop μ-loop
-cast-present c = omega arith
-
 loop-holds : tie.Need-loop-holds Inv-loop μ-loop
 loop-holds c = (omega arith, refl, refl)
-
-mul-level-in : tie.Need-mul-level-in Inv-loop μ-loop
-mul-level-in c = omega arith
-
-add-level-in : tie.Need-add-level-in Inv-loop μ-loop
-add-level-in c = omega arith
-
-level-in-requires : tie.Need-level-in-requires Inv-loop μ-loop
-level-in-requires c κs = omega arith
-
-mul-rows : tie.Need-mul-rows Inv-loop μ-loop
-mul-rows c = omega arith
-
-array-set-from-rows : tie.Need-array-set-from-rows Inv-loop μ-loop
-array-set-from-rows c = omega arith
-
-add-i : tie.Need-add-i Inv-loop μ-loop
-add-i c = omega arith
-
-loop-less : tie.Need-loop-less Inv-loop μ-loop
-loop-less c = omega arith
 
 loop-again : tie.Need-loop-again Inv-loop μ-loop
 loop-again c =
@@ -61,9 +31,6 @@ loop-again c =
           (c .level-in .ensures),
       simp length-set (l .inv .2),
     )
-
-cast-count : tie.Need-cast-count Inv-loop μ-loop
-cast-count c = omega arith
 
 returns : tie.Need-returns Inv-loop μ-loop
 unfolding levelsOf levelCount
@@ -77,17 +44,17 @@ levels-of-spec =
     (tie.spec
     Inv-loop
     μ-loop
-    number-in-requires
-    smaller-requires
-    cast-present
+    (λ c κs. tt)  -- number-in-requires
+    (λ c κs. tt)  -- smaller-requires
+    (λ c. omega arith)  -- cast-present
     loop-holds
-    mul-level-in
-    add-level-in
-    level-in-requires
-    mul-rows
-    array-set-from-rows
-    add-i
-    loop-less
+    (λ c. omega arith)  -- mul-level-in
+    (λ c. omega arith)  -- add-level-in
+    (λ c κs. omega arith)  -- level-in-requires
+    (λ c. omega arith)  -- mul-rows
+    (λ c. omega arith)  -- array-set-from-rows
+    (λ c. omega arith)  -- add-i
+    (λ c. omega arith)  -- loop-less
     loop-again
-    cast-count
+    (λ c. omega arith)  -- cast-count
     returns)

@@ -8,18 +8,6 @@ returns : tie.Need-returns
 unfolding nextEvent
 returns c = rw (le-ltb _ _ (c .if1 .taken))
 
-mul-if2 : tie.Need-mul-if2
-mul-if2 c = search needs
-
-shared-slice-read-if2 : tie.Need-shared-slice-read-if2
-shared-slice-read-if2 c = search needs
-
-add-result : tie.Need-add-result
-add-result c = search needs
-
-add-result-2 : tie.Need-add-result-2
-add-result-2 c = search needs
-
 returns-2 : tie.Need-returns-2
 unfolding nextEvent
 returns-2 c = rw (lt-ltb _ _ (c .before .before .if1 .left), eq-eqb _ _ (c .if2 .taken))
@@ -31,4 +19,11 @@ returns-3 c = rw (lt-ltb _ _ (c .before .before .if1 .left), ne-eqb _ _ (c .if2 
 pub next-event-spec : {M : Type 1} → statement M
 next-event-spec =
     tie.close
-    (tie.spec returns mul-if2 shared-slice-read-if2 add-result add-result-2 returns-2 returns-3)
+    (tie.spec
+    returns
+    (λ c. search needs)  -- mul-if2
+    (λ c. search needs)  -- shared-slice-read-if2
+    (λ c. search needs)  -- add-result
+    (λ c. search needs)  -- add-result-2
+    returns-2
+    returns-3)

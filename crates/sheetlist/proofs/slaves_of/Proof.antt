@@ -19,44 +19,8 @@ Inv-loop list from count present rows₀ i₀ rows i = (i ≤ present) ×
 abbrev μ-loop : tie.MeasureT-loop
 μ-loop list from count present rows₀ i₀ rows i = present - i
 
-slaves-from-requires : tie.Need-slaves-from-requires Inv-loop μ-loop
-slaves-from-requires c κs = tt
-
-number-in-requires : tie.Need-number-in-requires Inv-loop μ-loop
-number-in-requires c κs = tt
-
-smaller-requires : tie.Need-smaller-requires Inv-loop μ-loop
-smaller-requires c κs = tt
-
-cast-present : tie.Need-cast-present Inv-loop μ-loop
-cast-present c = omega arith
-
 loop-holds : tie.Need-loop-holds Inv-loop μ-loop
 loop-holds c = (omega arith, refl, refl)
-
-add-slave-in : tie.Need-add-slave-in Inv-loop μ-loop
-add-slave-in c = omega arith
-
-mul-slave-in : tie.Need-mul-slave-in Inv-loop μ-loop
-mul-slave-in c = omega arith
-
-add-slave-in-2 : tie.Need-add-slave-in-2 Inv-loop μ-loop
-add-slave-in-2 c = omega arith
-
-slave-in-requires : tie.Need-slave-in-requires Inv-loop μ-loop
-slave-in-requires c κs = omega arith
-
-mul-rows : tie.Need-mul-rows Inv-loop μ-loop
-mul-rows c = omega arith
-
-array-set-from-rows : tie.Need-array-set-from-rows Inv-loop μ-loop
-array-set-from-rows c = omega arith
-
-add-i : tie.Need-add-i Inv-loop μ-loop
-add-i c = omega arith
-
-loop-less : tie.Need-loop-less Inv-loop μ-loop
-loop-less c = omega arith
 
 loop-again : tie.Need-loop-again Inv-loop μ-loop
 loop-again c =
@@ -67,9 +31,6 @@ loop-again c =
           (c .before .before .before .before .number-in .result) (l .i) (l .inv .1) (c .slave-in .ensures),
       simp length-set (l .inv .2),
     )
-
-cast-count : tie.Need-cast-count Inv-loop μ-loop
-cast-count c = omega arith
 
 returns : tie.Need-returns Inv-loop μ-loop
 unfolding slavesOf slaveCount
@@ -84,19 +45,19 @@ slaves-of-spec =
     (tie.spec
     Inv-loop
     μ-loop
-    slaves-from-requires
-    number-in-requires
-    smaller-requires
-    cast-present
+    (λ c κs. tt)  -- slaves-from-requires
+    (λ c κs. tt)  -- number-in-requires
+    (λ c κs. tt)  -- smaller-requires
+    (λ c. omega arith)  -- cast-present
     loop-holds
-    add-slave-in
-    mul-slave-in
-    add-slave-in-2
-    slave-in-requires
-    mul-rows
-    array-set-from-rows
-    add-i
-    loop-less
+    (λ c. omega arith)  -- add-slave-in
+    (λ c. omega arith)  -- mul-slave-in
+    (λ c. omega arith)  -- add-slave-in-2
+    (λ c κs. omega arith)  -- slave-in-requires
+    (λ c. omega arith)  -- mul-rows
+    (λ c. omega arith)  -- array-set-from-rows
+    (λ c. omega arith)  -- add-i
+    (λ c. omega arith)  -- loop-less
     loop-again
-    cast-count
+    (λ c. omega arith)  -- cast-count
     returns)

@@ -19,18 +19,6 @@ loop-holds : tie.Need-loop-holds Inv-loop μ-loop
 unfolding allBelow
 loop-holds c = (omega arith, refl)
 
-request-at-requires : tie.Need-request-at-requires Inv-loop μ-loop
-request-at-requires c κs = omega arith
-
-is-blank-requires : tie.Need-is-blank-requires Inv-loop μ-loop
-is-blank-requires c κs = tt
-
-add-level : tie.Need-add-level Inv-loop μ-loop
-add-level c = omega arith
-
-loop-less : tie.Need-loop-less Inv-loop μ-loop
-loop-less c = omega arith
-
 loop-again : tie.Need-loop-again Inv-loop μ-loop
 unfolding allBelow
 loop-again c =
@@ -48,9 +36,9 @@ are-blank-spec =
     Inv-loop
     μ-loop
     loop-holds
-    request-at-requires
-    is-blank-requires
-    add-level
-    loop-less
+    (λ c κs. omega arith)  -- request-at-requires
+    (λ c κs. tt)  -- is-blank-requires
+    (λ c. omega arith)  -- add-level
+    (λ c. omega arith)  -- loop-less
     loop-again
     returns)

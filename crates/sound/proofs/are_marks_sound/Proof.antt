@@ -23,21 +23,9 @@ loop-holds : tie.Need-loop-holds Inv-loop μ-loop
 unfolding allBelow
 loop-holds c = (omega arith, refl)
 
-element-copy-out-if1 : tie.Need-element-copy-out-if1 Inv-loop μ-loop
-element-copy-out-if1 c = omega arith
-
-element-copy-out-if1-2 : tie.Need-element-copy-out-if1-2 Inv-loop μ-loop
-element-copy-out-if1-2 c = omega arith
-
 returns : tie.Need-returns Inv-loop μ-loop
 unfolding areMarked
 returns c = sym (all-miss _ (c .before .before .before .before .loop .level) places (omega arith) (not-true _ (c .if1 .taken)))
-
-add-level : tie.Need-add-level Inv-loop μ-loop
-add-level c = omega arith
-
-loop-less : tie.Need-loop-less Inv-loop μ-loop
-loop-less c = omega arith
 
 loop-again : tie.Need-loop-again Inv-loop μ-loop
 loop-again c =
@@ -55,10 +43,10 @@ are-marks-sound-spec =
     Inv-loop
     μ-loop
     loop-holds
-    element-copy-out-if1
-    element-copy-out-if1-2
+    (λ c. omega arith)  -- element-copy-out-if1
+    (λ c. omega arith)  -- element-copy-out-if1-2
     returns
-    add-level
-    loop-less
+    (λ c. omega arith)  -- add-level
+    (λ c. omega arith)  -- loop-less
     loop-again
     returns-2)

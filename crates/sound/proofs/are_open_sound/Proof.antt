@@ -37,15 +37,6 @@ loop-holds c =
     let e : c .if1 .count ≡ presentRows (f .args .setup .slaves .count) = ⊎-elim (λ w. omega (arith, w)) (λ w. omega (arith, w)) (c .if1 .came) in
     (omega arith, e, omega arith, refl, searched-none (f .args .setup .slaves) _ _ _ (c .if1 .count) e)
 
-request-at-requires : tie.Need-request-at-requires Inv-loop μ-loop
-request-at-requires c κs = omega arith
-
-add-level : tie.Need-add-level Inv-loop μ-loop
-add-level c = omega arith
-
-loop-less : tie.Need-loop-less Inv-loop μ-loop
-loop-less c = omega arith
-
 loop-again : tie.Need-loop-again Inv-loop μ-loop
 loop-again c =
     let l = c .before .before .before .before .loop in
@@ -64,21 +55,6 @@ returns c =
     (l .i) _ (l .inv .4) (ne-eqb _ 0 (c .before .if2 .left)) (omega arith)
     in
     sym (all-miss _ (l .level) places (omega arith) e)
-
-mul-row : tie.Need-mul-row Inv-loop μ-loop
-mul-row c = omega arith
-
-element-copy-out-row : tie.Need-element-copy-out-row Inv-loop μ-loop
-element-copy-out-row c = omega arith
-
-row-holds-requires : tie.Need-row-holds-requires Inv-loop μ-loop
-row-holds-requires c κs = tt
-
-element-copy-out-is-rest-sound : tie.Need-element-copy-out-is-rest-sound Inv-loop μ-loop
-element-copy-out-is-rest-sound c = omega arith
-
-is-rest-sound-requires : tie.Need-is-rest-sound-requires Inv-loop μ-loop
-is-rest-sound-requires c κs = tt
 
 -- where the rest of a request is tested: the function's start and the loop's head
 abbrev start : tie.After-is-rest-sound Inv-loop μ-loop → tie.Start Inv-loop μ-loop
@@ -104,24 +80,12 @@ returns-2 : tie.Need-returns-2 Inv-loop μ-loop
 unfolding areOpenSound
 returns-2 c = sym (all-miss _ (head (c .before) .loop .level) places (omega arith) (held (c .before) ∙ not-true _ (c .if5 .taken)))
 
-add-level-2 : tie.Need-add-level-2 Inv-loop μ-loop
-add-level-2 c = omega arith
-
-loop-less-2 : tie.Need-loop-less-2 Inv-loop μ-loop
-loop-less-2 c = omega arith
-
 loop-again-2 : tie.Need-loop-again-2 Inv-loop μ-loop
 loop-again-2 c =
     let l = c .before .before .before .before .before .before .before .before .before .before .before .loop in
     let f = c .before .before .before .before .before .before .before .before .before .before .before .before .before .before in
     let e = held (c .before) ∙ not-false _ (c .if5 .left) in
     (omega arith, l .inv .1, omega arith, all-more _ (l .level) (l .inv .3) e, searched-none (f .args .setup .slaves) _ _ _ _ (l .inv .1))
-
-add-i : tie.Need-add-i Inv-loop μ-loop
-add-i c = omega arith
-
-loop-less-3 : tie.Need-loop-less-3 Inv-loop μ-loop
-loop-less-3 c = omega arith
 
 loop-again-3 : tie.Need-loop-again-3 Inv-loop μ-loop
 loop-again-3 c =
@@ -147,21 +111,21 @@ are-open-sound-spec =
     Inv-loop
     μ-loop
     loop-holds
-    request-at-requires
-    add-level
-    loop-less
+    (λ c κs. omega arith)  -- request-at-requires
+    (λ c. omega arith)  -- add-level
+    (λ c. omega arith)  -- loop-less
     loop-again
     returns
-    mul-row
-    element-copy-out-row
-    row-holds-requires
-    element-copy-out-is-rest-sound
-    is-rest-sound-requires
+    (λ c. omega arith)  -- mul-row
+    (λ c. omega arith)  -- element-copy-out-row
+    (λ c κs. tt)  -- row-holds-requires
+    (λ c. omega arith)  -- element-copy-out-is-rest-sound
+    (λ c κs. tt)  -- is-rest-sound-requires
     returns-2
-    add-level-2
-    loop-less-2
+    (λ c. omega arith)  -- add-level-2
+    (λ c. omega arith)  -- loop-less-2
     loop-again-2
-    add-i
-    loop-less-3
+    (λ c. omega arith)  -- add-i
+    (λ c. omega arith)  -- loop-less-3
     loop-again-3
     returns-3)

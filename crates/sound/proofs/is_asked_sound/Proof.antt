@@ -4,27 +4,6 @@ use borrow.Author.Needs.{needs}
 use Rattle.sound.proofs.is_asked_sound.Statement.{statement}
 use Rattle.sound.proofs.is_asked_sound.Tie as tie
 
-enum-told : tie.Need-enum-told
-enum-told c = search needs
-
-enum-told-2 : tie.Need-enum-told-2
-enum-told-2 c = search needs
-
-enum-told-3 : tie.Need-enum-told-3
-enum-told-3 c = search needs
-
-enum-known-asked : tie.Need-enum-known-asked
-enum-known-asked c = search needs
-
-enum-told-4 : tie.Need-enum-told-4
-enum-told-4 c = search needs
-
-enum-known-phase : tie.Need-enum-known-phase
-enum-known-phase c = search needs
-
-is-asked-at-requires : tie.Need-is-asked-at-requires
-is-asked-at-requires c κs = search needs
-
 returns : tie.Need-returns
 returns c =
     let a = c .before .before .before .before .args in
@@ -52,13 +31,13 @@ pub is-asked-sound-spec : {M : Type 1} → statement M
 is-asked-sound-spec =
     tie.close
     (tie.spec
-    enum-told
-    enum-told-2
-    enum-told-3
-    enum-known-asked
-    enum-told-4
-    enum-known-phase
-    is-asked-at-requires
+    (λ c. search needs)  -- enum-told
+    (λ c. search needs)  -- enum-told-2
+    (λ c. search needs)  -- enum-told-3
+    (λ c. search needs)  -- enum-known-asked
+    (λ c. search needs)  -- enum-told-4
+    (λ c. search needs)  -- enum-known-phase
+    (λ c κs. search needs)  -- is-asked-at-requires
     returns
     returns-2
     returns-3

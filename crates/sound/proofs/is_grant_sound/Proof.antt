@@ -7,18 +7,6 @@ use Rattle.sound.proofs.is_grant_sound.Tie as tie
 returns : tie.Need-returns
 returns c = rw (lt-leb _ systemMaster (c .if1 .taken))
 
-mul-asking : tie.Need-mul-asking
-mul-asking c = search needs
-
-element-copy-out-asking : tie.Need-element-copy-out-asking
-element-copy-out-asking c = search needs
-
-element-copy-out-result : tie.Need-element-copy-out-result
-element-copy-out-result c = search needs
-
-element-copy-out-result-2 : tie.Need-element-copy-out-result-2
-element-copy-out-result-2 c = search needs
-
 returns-2 : tie.Need-returns-2
 returns-2 c = rw (le-leb _ systemMaster (c .before .before .before .if1 .left))
 
@@ -27,8 +15,8 @@ is-grant-sound-spec =
     tie.close
     (tie.spec
     returns
-    mul-asking
-    element-copy-out-asking
-    element-copy-out-result
-    element-copy-out-result-2
+    (λ c. search needs)  -- mul-asking
+    (λ c. search needs)  -- element-copy-out-asking
+    (λ c. search needs)  -- element-copy-out-result
+    (λ c. search needs)  -- element-copy-out-result-2
     returns-2)

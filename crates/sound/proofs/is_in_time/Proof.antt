@@ -8,15 +8,6 @@ returns : tie.Need-returns
 unfolding isInTime
 returns c = rw (eq-eqb _ 0 (c .if1 .taken))
 
-allowance-of-requires : tie.Need-allowance-of-requires
-allowance-of-requires c κs = search needs
-
-transfer-of-requires : tie.Need-transfer-of-requires
-transfer-of-requires c κs = search needs
-
-is-within-requires : tie.Need-is-within-requires
-is-within-requires c κs = search needs
-
 returns-2 : tie.Need-returns-2
 unfolding isInTime
 returns-2 c =
@@ -30,4 +21,9 @@ returns-2 c =
 pub is-in-time-spec : {M : Type 1} → statement M
 is-in-time-spec =
     tie.close
-    (tie.spec returns allowance-of-requires transfer-of-requires is-within-requires returns-2)
+    (tie.spec
+    returns
+    (λ c κs. search needs)  -- allowance-of-requires
+    (λ c κs. search needs)  -- transfer-of-requires
+    (λ c κs. search needs)  -- is-within-requires
+    returns-2)

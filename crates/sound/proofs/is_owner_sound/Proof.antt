@@ -6,18 +6,6 @@ use mathlib.Core.Path.{sym, ap, _∙_}
 use Rattle.sound.proofs.is_owner_sound.Statement.{statement}
 use Rattle.sound.proofs.is_owner_sound.Tie as tie
 
-enum-told : tie.Need-enum-told
-enum-told c = search needs
-
-enum-known-phase : tie.Need-enum-known-phase
-enum-known-phase c = search needs
-
-is-grant-sound-requires : tie.Need-is-grant-sound-requires
-is-grant-sound-requires c κs = search needs
-
-returns : tie.Need-returns
-returns c = search needs
-
 returns-2 : tie.Need-returns-2
 returns-2 c =
     let a = c .before .before .before .before .args in
@@ -26,4 +14,9 @@ returns-2 c =
 
 pub is-owner-sound-spec : {M : Type 1} → statement M
 is-owner-sound-spec =
-    tie.close (tie.spec enum-told enum-known-phase is-grant-sound-requires returns returns-2)
+    tie.close (tie.spec
+    (λ c. search needs)  -- enum-told
+    (λ c. search needs)  -- enum-known-phase
+    (λ c κs. search needs)  -- is-grant-sound-requires
+    (λ c. search needs)  -- returns
+    returns-2)

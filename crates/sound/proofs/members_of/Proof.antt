@@ -31,30 +31,6 @@ loop-holds c =
       tells-none a isFairRow (replicate places false) _ (omega (arith, e)) (λ l k. getD-replicate places l false false k),
     )
 
-sub-i : tie.Need-sub-i Inv-loop μ-loop
-sub-i c = omega arith
-
-mul-row : tie.Need-mul-row Inv-loop μ-loop
-mul-row c = omega arith
-
-element-copy-out-row : tie.Need-element-copy-out-row Inv-loop μ-loop
-element-copy-out-row c = omega arith
-
-cast-at : tie.Need-cast-at Inv-loop μ-loop
-cast-at c = omega arith
-
-array-write-present : tie.Need-array-write-present Inv-loop μ-loop
-array-write-present c = omega arith
-
-is-fair-requires : tie.Need-is-fair-requires Inv-loop μ-loop
-is-fair-requires c κs = tt
-
-array-write-fair : tie.Need-array-write-fair Inv-loop μ-loop
-array-write-fair c = omega arith
-
-loop-less : tie.Need-loop-less Inv-loop μ-loop
-loop-less c = omega arith
-
 loop-again : tie.Need-loop-again Inv-loop μ-loop
 loop-again c =
     let l = c .before .before .before .before .before .before .before .loop in
@@ -66,9 +42,6 @@ loop-again c =
       tells-more a isLevel (l .present) (l .i - 1) (omega arith) (l .inv .1) (omega arith) (rw e (l .inv .3)),
       rw (c .is-fair .ensures) (tells-more a isFairRow (l .fair) (l .i - 1) (omega arith) (l .inv .2) (omega arith) (rw e (l .inv .4))),
     )
-
-loop-less-2 : tie.Need-loop-less-2 Inv-loop μ-loop
-loop-less-2 c = omega arith
 
 loop-again-2 : tie.Need-loop-again-2 Inv-loop μ-loop
 loop-again-2 c =
@@ -99,15 +72,15 @@ members-of-spec =
     Inv-loop
     μ-loop
     loop-holds
-    sub-i
-    mul-row
-    element-copy-out-row
-    cast-at
-    array-write-present
-    is-fair-requires
-    array-write-fair
-    loop-less
+    (λ c. omega arith)  -- sub-i
+    (λ c. omega arith)  -- mul-row
+    (λ c. omega arith)  -- element-copy-out-row
+    (λ c. omega arith)  -- cast-at
+    (λ c. omega arith)  -- array-write-present
+    (λ c κs. tt)  -- is-fair-requires
+    (λ c. omega arith)  -- array-write-fair
+    (λ c. omega arith)  -- loop-less
     loop-again
-    loop-less-2
+    (λ c. omega arith)  -- loop-less-2
     loop-again-2
     returns)

@@ -5,24 +5,9 @@ use mathlib.Core.Path.{sym, _∙_}
 use Rattle.sound.proofs.request_verdict.Statement.{statement}
 use Rattle.sound.proofs.request_verdict.Tie as tie
 
-is-in-range-requires : tie.Need-is-in-range-requires
-is-in-range-requires c κs = search needs
-
 returns : tie.Need-returns
 unfolding requestVerdict
 returns c = rw (sym (c .before .is-in-range .ensures) ∙ not-true _ (c .if1 .taken))
-
-slave-row-requires : tie.Need-slave-row-requires
-slave-row-requires c κs = search needs
-
-enum-told : tie.Need-enum-told
-enum-told c = search needs
-
-enum-told-2 : tie.Need-enum-told-2
-enum-told-2 c = search needs
-
-is-past-master-requires : tie.Need-is-past-master-requires
-is-past-master-requires c κs = search needs
 
 returns-2 : tie.Need-returns-2
 unfolding requestVerdict
@@ -57,12 +42,12 @@ pub request-verdict-spec : {M : Type 1} → statement M
 request-verdict-spec =
     tie.close
     (tie.spec
-    is-in-range-requires
+    (λ c κs. search needs)  -- is-in-range-requires
     returns
-    slave-row-requires
-    enum-told
-    enum-told-2
-    is-past-master-requires
+    (λ c κs. search needs)  -- slave-row-requires
+    (λ c. search needs)  -- enum-told
+    (λ c. search needs)  -- enum-told-2
+    (λ c κs. search needs)  -- is-past-master-requires
     returns-2
     returns-3
     returns-4)

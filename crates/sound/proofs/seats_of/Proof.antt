@@ -28,9 +28,6 @@ Inv-loop levels present₀ fair₀ count i₀ present fair i =
 abbrev μ-loop : tie.MeasureT-loop
 μ-loop levels present₀ fair₀ count i₀ present fair i = i
 
-is-row-count-requires : tie.Need-is-row-count-requires Inv-loop μ-loop
-is-row-count-requires c κs = tt
-
 returns : tie.Need-returns Inv-loop μ-loop
 unfolding levelsFit
 returns c =
@@ -52,26 +49,11 @@ loop-holds c =
       tells-none a isFairRow (replicate places false) _ (omega arith) (λ l k. getD-replicate places l false false k),
     )
 
-sub-i : tie.Need-sub-i Inv-loop μ-loop
-sub-i c = omega arith
-
-mul-row : tie.Need-mul-row Inv-loop μ-loop
-mul-row c = omega arith
-
-element-copy-out-row : tie.Need-element-copy-out-row Inv-loop μ-loop
-element-copy-out-row c = omega arith
-
-sub-above : tie.Need-sub-above Inv-loop μ-loop
-sub-above c = omega arith
-
 mul-before : tie.Need-mul-before Inv-loop μ-loop
 mul-before c = ⊎-elim (λ w. omega (arith, w)) (λ w. omega (arith, w)) (c .before .if2 .came)
 
 element-copy-out-before : tie.Need-element-copy-out-before Inv-loop μ-loop
 element-copy-out-before c = ⊎-elim (λ w. omega (arith, w)) (λ w. omega (arith, w)) (c .before .if2 .came)
-
-level-fits-requires : tie.Need-level-fits-requires Inv-loop μ-loop
-level-fits-requires c κs = tt
 
 -- where a row was tested: the rows, the loop's head, and what the test gave of the row
 abbrev rows : tie.After-level-fits Inv-loop μ-loop → LevelRows
@@ -97,20 +79,11 @@ returns-2 c =
 fits-here : (c : tie.Else3 Inv-loop μ-loop) → levelRowFits (rows (c .before)) (head (c .before) .loop .i - 1) ≡ true
 fits-here c = sym (tested (c .before)) ∙ not-false _ (c .if3 .left)
 
-cast-at : tie.Need-cast-at Inv-loop μ-loop
-cast-at c = search needs
-
 array-write-present : tie.Need-array-write-present Inv-loop μ-loop
 array-write-present c = fits-small _ _ (fits-here (c .before))
 
-is-fair-requires : tie.Need-is-fair-requires Inv-loop μ-loop
-is-fair-requires c κs = tt
-
 array-write-fair : tie.Need-array-write-fair Inv-loop μ-loop
 array-write-fair c = fits-small _ _ (fits-here (c .before .before))
-
-loop-less : tie.Need-loop-less Inv-loop μ-loop
-loop-less c = omega arith
 
 loop-again : tie.Need-loop-again Inv-loop μ-loop
 loop-again c =
@@ -148,21 +121,21 @@ seats-of-spec =
     (tie.spec
     Inv-loop
     μ-loop
-    is-row-count-requires
+    (λ c κs. tt)  -- is-row-count-requires
     returns
     loop-holds
-    sub-i
-    mul-row
-    element-copy-out-row
-    sub-above
+    (λ c. omega arith)  -- sub-i
+    (λ c. omega arith)  -- mul-row
+    (λ c. omega arith)  -- element-copy-out-row
+    (λ c. omega arith)  -- sub-above
     mul-before
     element-copy-out-before
-    level-fits-requires
+    (λ c κs. tt)  -- level-fits-requires
     returns-2
-    cast-at
+    (λ c. search needs)  -- cast-at
     array-write-present
-    is-fair-requires
+    (λ c κs. tt)  -- is-fair-requires
     array-write-fair
-    loop-less
+    (λ c. omega arith)  -- loop-less
     loop-again
     returns-3)

@@ -3,12 +3,6 @@ use borrow.Author.Needs.{needs}
 use Rattle.sound.proofs.sound_store.Statement.{statement}
 use Rattle.sound.proofs.sound_store.Tie as tie
 
-seats-of-requires : tie.Need-seats-of-requires
-seats-of-requires c κs = search needs
-
-is-master-length-requires : tie.Need-is-master-length-requires
-is-master-length-requires c κs = search needs
-
 returns : tie.Need-returns
 returns c = search rows-broken
 
@@ -18,9 +12,6 @@ are-clauses-sound-requires c κs = search seated
 returns-2 : tie.Need-returns-2
 returns-2 c = search channel-broken
 
-slave-store-requires : tie.Need-slave-store-requires
-slave-store-requires c κs = search needs
-
 returns-3 : tie.Need-returns-3
 returns-3 c = search stored
 
@@ -28,10 +19,10 @@ pub sound-store-spec : {M : Type 1} → statement M
 sound-store-spec =
     tie.close
     (tie.spec
-    seats-of-requires
-    is-master-length-requires
+    (λ c κs. search needs)  -- seats-of-requires
+    (λ c κs. search needs)  -- is-master-length-requires
     returns
     are-clauses-sound-requires
     returns-2
-    slave-store-requires
+    (λ c κs. search needs)  -- slave-store-requires
     returns-3)

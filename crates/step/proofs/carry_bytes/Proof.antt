@@ -5,19 +5,10 @@ use borrow.Author.Needs.{needs}
 use Rattle.step.proofs.carry_bytes.Statement.{statement}
 use Rattle.step.proofs.carry_bytes.Tie as tie
 
-has-room-requires : tie.Need-has-room-requires
-has-room-requires c κs = search needs
-
 carry-requires : tie.Need-carry-requires
 carry-requires c κs =
     let a = c .before .before .before .before .before .before .args in
     room-is (a .what) _ _ (sym (c .before .before .before .has-room .ensures) ∙ c .before .before .if1 .taken)
-
-same-length : tie.Need-same-length
-same-length c = search needs
-
-same-length-2 : tie.Need-same-length-2
-same-length-2 c = search needs
 
 returns : tie.Need-returns
 unfolding carriedSlave carriedMaster
@@ -34,4 +25,10 @@ returns-2 c = let e = sym (c .before .has-room .ensures) ∙ c .if1 .left in (rw
 pub carry-bytes-spec : {M : Type 1} → statement M
 carry-bytes-spec =
     tie.close
-    (tie.spec has-room-requires carry-requires same-length same-length-2 returns returns-2)
+    (tie.spec
+    (λ c κs. search needs)  -- has-room-requires
+    carry-requires
+    (λ c. search needs)  -- same-length
+    (λ c. search needs)  -- same-length-2
+    returns
+    returns-2)

@@ -5,18 +5,6 @@ use borrow.Author.Needs.{needs}
 use Rattle.step.proofs.decide.Statement.{statement}
 use Rattle.step.proofs.decide.Tie as tie
 
-ready-verdict-requires : tie.Need-ready-verdict-requires
-ready-verdict-requires c κs = search needs
-
-enum-known-verdict : tie.Need-enum-known-verdict
-enum-known-verdict c = search needs
-
-refused-requires : tie.Need-refused-requires
-refused-requires c κs = search needs
-
-enum-told : tie.Need-enum-told
-enum-told c = search needs
-
 decide-ready-requires : tie.Need-decide-ready-requires
 decide-ready-requires c κs =
     let five = c .before .before .before .before .before in
@@ -43,10 +31,10 @@ pub decide-spec : {M : Type 1} → statement M
 decide-spec =
     tie.close
     (tie.spec
-    ready-verdict-requires
-    enum-known-verdict
-    refused-requires
-    enum-told
+    (λ c κs. search needs)  -- ready-verdict-requires
+    (λ c. search needs)  -- enum-known-verdict
+    (λ c κs. search needs)  -- refused-requires
+    (λ c. search needs)  -- enum-told
     decide-ready-requires
     returns
     returns-2)

@@ -4,9 +4,6 @@ use borrow.Author.Needs.{needs}
 use Rattle.step.proofs.decide_in_place.Statement.{statement}
 use Rattle.step.proofs.decide_in_place.Tie as tie
 
-place-at-requires : tie.Need-place-at-requires
-place-at-requires c κs = search needs
-
 slot-at-requires : tie.Need-slot-at-requires
 slot-at-requires c κs =
     let five = c .before .before .before .before .before in
@@ -43,9 +40,6 @@ put-slot-requires c κs =
     let p = twenty .before .before .before .pre in
     rw (fifteen .before .place-at .ensures) (place-small (a .setup) (a .channel) (a .tally) _ _ (p .0) (p .1))
 
-channel-of-requires : tie.Need-channel-of-requires
-channel-of-requires c κs = search needs
-
 returns : tie.Need-returns
 returns c =
     let five = c .before .before .before .before .before in
@@ -65,10 +59,10 @@ pub decide-in-place-spec : {M : Type 1} → statement M
 decide-in-place-spec =
     tie.close
     (tie.spec
-    place-at-requires
+    (λ c κs. search needs)  -- place-at-requires
     slot-at-requires
     path-for-requires
     act-on-requires
     put-slot-requires
-    channel-of-requires
+    (λ c κs. search needs)  -- channel-of-requires
     returns)

@@ -5,9 +5,6 @@ use borrow.Author.Needs.{needs}
 use Rattle.step.proofs.log_ready.Statement.{statement}
 use Rattle.step.proofs.log_ready.Tie as tie
 
-refused-log-requires : tie.Need-refused-log-requires
-refused-log-requires c κs = search needs
-
 returns : tie.Need-returns
 returns c =
     let t = lt-ltb _ _ (c .before .if1 .taken) in
@@ -29,15 +26,6 @@ log-steps-requires c κs =
     } in
     (seven .pre, (shaped, omega (arith, c .before .before .before .if1 .left)))
 
-same-length : tie.Need-same-length
-same-length c = search needs
-
-same-length-2 : tie.Need-same-length-2
-same-length-2 c = search needs
-
-same-length-3 : tie.Need-same-length-3
-same-length-3 c = search needs
-
 returns-2 : tie.Need-returns-2
 returns-2 c =
     let five = c .before .before .before .before .before in
@@ -50,10 +38,10 @@ pub log-ready-spec : {M : Type 1} → statement M
 log-ready-spec =
     tie.close
     (tie.spec
-    refused-log-requires
+    (λ c κs. search needs)  -- refused-log-requires
     returns
     log-steps-requires
-    same-length
-    same-length-2
-    same-length-3
+    (λ c. search needs)  -- same-length
+    (λ c. search needs)  -- same-length-2
+    (λ c. search needs)  -- same-length-3
     returns-2)

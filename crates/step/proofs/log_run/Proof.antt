@@ -5,18 +5,6 @@ use borrow.Author.Needs.{needs}
 use Rattle.step.proofs.log_run.Statement.{statement}
 use Rattle.step.proofs.log_run.Tie as tie
 
-ready-verdict-requires : tie.Need-ready-verdict-requires
-ready-verdict-requires c κs = search needs
-
-enum-known-verdict : tie.Need-enum-known-verdict
-enum-known-verdict c = search needs
-
-refused-log-requires : tie.Need-refused-log-requires
-refused-log-requires c κs = search needs
-
-enum-told : tie.Need-enum-told
-enum-told c = search needs
-
 log-ready-requires : tie.Need-log-ready-requires
 log-ready-requires c κs =
     let five = c .before .before .before .before .before in
@@ -28,15 +16,6 @@ unfolding logOf
 returns c =
     let e = sym (c .before .before .before .before .ready-verdict .ensures) ∙ c .before .before .verdict .given .1 in
     (rw e (c .refused-log .ensures), (rw e, (rw e, rw e)))
-
-same-length : tie.Need-same-length
-same-length c = search needs
-
-same-length-2 : tie.Need-same-length-2
-same-length-2 c = search needs
-
-same-length-3 : tie.Need-same-length-3
-same-length-3 c = search needs
 
 returns-2 : tie.Need-returns-2
 unfolding logOf
@@ -51,13 +30,13 @@ pub log-run-spec : {M : Type 1} → statement M
 log-run-spec =
     tie.close
     (tie.spec
-    ready-verdict-requires
-    enum-known-verdict
-    refused-log-requires
-    enum-told
+    (λ c κs. search needs)  -- ready-verdict-requires
+    (λ c. search needs)  -- enum-known-verdict
+    (λ c κs. search needs)  -- refused-log-requires
+    (λ c. search needs)  -- enum-told
     log-ready-requires
     returns
-    same-length
-    same-length-2
-    same-length-3
+    (λ c. search needs)  -- same-length
+    (λ c. search needs)  -- same-length-2
+    (λ c. search needs)  -- same-length-3
     returns-2)

@@ -2,29 +2,8 @@ use borrow.Author.Needs.{needs}
 use Rattle.step.proofs.plan_in.Statement.{statement}
 use Rattle.step.proofs.plan_in.Tie as tie
 
-enum-known-answer : tie.Need-enum-known-answer
-enum-known-answer c = search needs
-
-enum-known-answer-2 : tie.Need-enum-known-answer-2
-enum-known-answer-2 c = search needs
-
-enum-told : tie.Need-enum-told
-enum-told c = search needs
-
-enum-known-entry : tie.Need-enum-known-entry
-enum-known-entry c = search needs
-
-enum-known-entry-2 : tie.Need-enum-known-entry-2
-enum-known-entry-2 c = search needs
-
-enum-known-entry-3 : tie.Need-enum-known-entry-3
-enum-known-entry-3 c = search needs
-
 returns : tie.Need-returns
 returns c = rw (c .before .answer .given .1)
-
-returns-2 : tie.Need-returns-2
-returns-2 c = search needs
 
 returns-3 : tie.Need-returns-3
 returns-3 c = rw (c .before .before .before .before .answer2 .given .1, c .before .entry .given .1)
@@ -39,14 +18,14 @@ pub plan-in-spec : {M : Type 1} → statement M
 plan-in-spec =
     tie.close
     (tie.spec
-    enum-known-answer
-    enum-known-answer-2
-    enum-told
-    enum-known-entry
-    enum-known-entry-2
-    enum-known-entry-3
+    (λ c. search needs)  -- enum-known-answer
+    (λ c. search needs)  -- enum-known-answer-2
+    (λ c. search needs)  -- enum-told
+    (λ c. search needs)  -- enum-known-entry
+    (λ c. search needs)  -- enum-known-entry-2
+    (λ c. search needs)  -- enum-known-entry-3
     returns
-    returns-2
+    (λ c. search needs)  -- returns-2
     returns-3
     returns-4
     returns-5)

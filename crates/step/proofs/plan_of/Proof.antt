@@ -5,15 +5,6 @@ use borrow.Author.Needs.{needs}
 use Rattle.step.proofs.plan_of.Statement.{statement}
 use Rattle.step.proofs.plan_of.Tie as tie
 
-ready-verdict-requires : tie.Need-ready-verdict-requires
-ready-verdict-requires c κs = search needs
-
-enum-known-verdict : tie.Need-enum-known-verdict
-enum-known-verdict c = search needs
-
-enum-told : tie.Need-enum-told
-enum-told c = search needs
-
 plan-ready-requires : tie.Need-plan-ready-requires
 plan-ready-requires c κs =
     let a = c .before .before .before .args in
@@ -36,9 +27,9 @@ pub plan-of-spec : {M : Type 1} → statement M
 plan-of-spec =
     tie.close
     (tie.spec
-    ready-verdict-requires
-    enum-known-verdict
-    enum-told
+    (λ c κs. search needs)  -- ready-verdict-requires
+    (λ c. search needs)  -- enum-known-verdict
+    (λ c. search needs)  -- enum-told
     plan-ready-requires
     returns
     returns-2)

@@ -5,18 +5,6 @@ use borrow.Author.Needs.{needs}
 use Rattle.step.proofs.ready_verdict.Statement.{statement}
 use Rattle.step.proofs.ready_verdict.Tie as tie
 
-sound-store-requires : tie.Need-sound-store-requires
-sound-store-requires c κs = search needs
-
-enum-told : tie.Need-enum-told
-enum-told c = search needs
-
-enum-known-store : tie.Need-enum-known-store
-enum-known-store c = search needs
-
-cast-if1 : tie.Need-cast-if1
-cast-if1 c = search needs
-
 returns : tie.Need-returns
 unfolding readyVerdict
 returns c =
@@ -39,10 +27,10 @@ pub ready-verdict-spec : {M : Type 1} → statement M
 ready-verdict-spec =
     tie.close
     (tie.spec
-    sound-store-requires
-    enum-told
-    enum-known-store
-    cast-if1
+    (λ c κs. search needs)  -- sound-store-requires
+    (λ c. search needs)  -- enum-told
+    (λ c. search needs)  -- enum-known-store
+    (λ c. search needs)  -- cast-if1
     returns
     returns-2
     returns-3)

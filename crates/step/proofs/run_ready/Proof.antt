@@ -3,22 +3,10 @@ use borrow.Author.Needs.{needs}
 use Rattle.step.proofs.run_ready.Statement.{statement}
 use Rattle.step.proofs.run_ready.Tie as tie
 
-refused-run-requires : tie.Need-refused-run-requires
-refused-run-requires c κs = search needs
-
 returns : tie.Need-returns
 returns c =
     let t = lt-ltb _ _ (c .before .if1 .taken) in
     (rw t (c .refused-run .ensures), (rw t, rw t))
-
-run-steps-requires : tie.Need-run-steps-requires
-run-steps-requires c κs = search needs
-
-same-length : tie.Need-same-length
-same-length c = search needs
-
-same-length-2 : tie.Need-same-length-2
-same-length-2 c = search needs
 
 returns-2 : tie.Need-returns-2
 returns-2 c =
@@ -28,4 +16,10 @@ returns-2 c =
 
 pub run-ready-spec : {M : Type 1} → statement M
 run-ready-spec =
-    tie.close (tie.spec refused-run-requires returns run-steps-requires same-length same-length-2 returns-2)
+    tie.close (tie.spec
+    (λ c κs. search needs)  -- refused-run-requires
+    returns
+    (λ c κs. search needs)  -- run-steps-requires
+    (λ c. search needs)  -- same-length
+    (λ c. search needs)  -- same-length-2
+    returns-2)

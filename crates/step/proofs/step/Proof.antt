@@ -5,20 +5,11 @@ use borrow.Author.Needs.{needs}
 use Rattle.step.proofs.step.Statement.{statement}
 use Rattle.step.proofs.step.Tie as tie
 
-decide-requires : tie.Need-decide-requires
-decide-requires c κs = search needs
-
 carry-requires : tie.Need-carry-requires
 carry-requires c κs =
     let five = c .before .before .before .before .before in
     let a = five .before .before .before .args in
     rw (c .before .before .before .decide .ensures) (decided-room (a .setup) (a .channel) (a .slave .now) (a .master .now) (a .tally))
-
-same-length : tie.Need-same-length
-same-length c = search needs
-
-same-length-2 : tie.Need-same-length-2
-same-length-2 c = search needs
 
 returns : tie.Need-returns
 returns c =
@@ -33,4 +24,9 @@ returns c =
     )
 
 pub step-spec : {M : Type 1} → statement M
-step-spec = tie.close (tie.spec decide-requires carry-requires same-length same-length-2 returns)
+step-spec = tie.close (tie.spec
+    (λ c κs. search needs)  -- decide-requires
+    carry-requires
+    (λ c. search needs)  -- same-length
+    (λ c. search needs)  -- same-length-2
+    returns)

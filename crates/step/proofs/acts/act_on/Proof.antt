@@ -8,21 +8,6 @@ use borrow.Author.Needs.{needs}
 use Rattle.step.proofs.acts.act_on.Statement.{statement}
 use Rattle.step.proofs.acts.act_on.Tie as tie
 
-enum-told : tie.Need-enum-told
-enum-told c = search needs
-
-arbitration-time-requires : tie.Need-arbitration-time-requires
-arbitration-time-requires c κs = search needs
-
-is-full-requires : tie.Need-is-full-requires
-is-full-requires c κs = search needs
-
-full-requires : tie.Need-full-requires
-full-requires c κs = search needs
-
-stay-requires : tie.Need-stay-requires
-stay-requires c κs = search needs
-
 returns : tie.Need-returns
 returns c =
     let a = c .before .before .before .before .before .before .before .args in
@@ -41,33 +26,12 @@ granted-requires c κs = ltb-false clockLimit _ (ap (λ (x : ℕ). ltb clockLimi
     (sym (c .before .before .before .before .arbitration-time .ensures)) ∙ sym (c .before .before .before .is-full .ensures)
     ∙ c .before .before .if1 .left)
 
-stay-requires-2 : tie.Need-stay-requires-2
-stay-requires-2 c κs = search needs
-
-enum-known-phase : tie.Need-enum-known-phase
-enum-known-phase c = search needs
-
-rest-requires : tie.Need-rest-requires
-rest-requires c κs = search needs
-
-stay-requires-3 : tie.Need-stay-requires-3
-stay-requires-3 c κs = search needs
-
 returns-2 : tie.Need-returns-2
 returns-2 c =
     let a = c .before .before .before .before .before .before .before .args in
     decides-rest _ (a .standing) (a .request) (a .left .now) (a .inactive .now) _
     (c .before .before .before .before .before .phase .given .1) _ (eq-eqb _ 0 (c .before .before .if2 .taken))
     (c .stay3 .ensures ∙ rw (c .before .rest .ensures))
-
-is-full-requires-2 : tie.Need-is-full-requires-2
-is-full-requires-2 c κs = search needs
-
-full-requires-2 : tie.Need-full-requires-2
-full-requires-2 c κs = search needs
-
-stay-requires-4 : tie.Need-stay-requires-4
-stay-requires-4 c κs = search needs
 
 returns-3 : tie.Need-returns-3
 returns-3 c =
@@ -114,22 +78,22 @@ pub act-on-spec : {M : Type 1} → statement M
 act-on-spec =
     tie.close
     (tie.spec
-    enum-told
-    arbitration-time-requires
-    is-full-requires
-    full-requires
-    stay-requires
+    (λ c. search needs)  -- enum-told
+    (λ c κs. search needs)  -- arbitration-time-requires
+    (λ c κs. search needs)  -- is-full-requires
+    (λ c κs. search needs)  -- full-requires
+    (λ c κs. search needs)  -- stay-requires
     returns
     choose-requires
     granted-requires
-    stay-requires-2
-    enum-known-phase
-    rest-requires
-    stay-requires-3
+    (λ c κs. search needs)  -- stay-requires-2
+    (λ c. search needs)  -- enum-known-phase
+    (λ c κs. search needs)  -- rest-requires
+    (λ c κs. search needs)  -- stay-requires-3
     returns-2
-    is-full-requires-2
-    full-requires-2
-    stay-requires-4
+    (λ c κs. search needs)  -- is-full-requires-2
+    (λ c κs. search needs)  -- full-requires-2
+    (λ c κs. search needs)  -- stay-requires-4
     returns-3
     decide-cycle-requires
     returns-4

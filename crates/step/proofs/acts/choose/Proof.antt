@@ -5,26 +5,17 @@ use borrow.Author.Needs.{needs}
 use Rattle.step.proofs.acts.choose.Statement.{statement}
 use Rattle.step.proofs.acts.choose.Tie as tie
 
-winner-from-requires : tie.Need-winner-from-requires
-winner-from-requires c κs = search needs
-
 add-waits-from : tie.Need-add-waits-from
 add-waits-from c =
     let s = c .before .before .before in
     let w = is (s .args .left .now) (s .args .inactive .now) _ _ _ (s .pre) (c .before .winner-from .ensures) in
     record { fits = omega (arith, w, winner-small (s .args .left .now) (s .args .inactive .now)) }
 
-waits-from-requires : tie.Need-waits-from-requires
-waits-from-requires c κs = search needs
-
 returns : tie.Need-returns
 returns c =
     let five = c .before .before .before .before .before in
     chosen-active (five .args .left .now) (five .args .inactive .now) _ _ _ (five .pre) (c .before .before .before .winner-from .ensures)
     (sym (c .before .waits-from .ensures) ∙ c .if1 .taken)
-
-others-from-requires : tie.Need-others-from-requires
-others-from-requires c κs = search needs
 
 returns-2 : tie.Need-returns-2
 returns-2 c =
@@ -38,9 +29,9 @@ pub choose-spec : {M : Type 1} → statement M
 choose-spec =
     tie.close
     (tie.spec
-    winner-from-requires
+    (λ c κs. search needs)  -- winner-from-requires
     add-waits-from
-    waits-from-requires
+    (λ c κs. search needs)  -- waits-from-requires
     returns
-    others-from-requires
+    (λ c κs. search needs)  -- others-from-requires
     returns-2)

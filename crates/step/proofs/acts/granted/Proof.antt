@@ -3,18 +3,6 @@ use borrow.Author.Needs.{needs}
 use Rattle.step.proofs.acts.granted.Statement.{statement}
 use Rattle.step.proofs.acts.granted.Tie as tie
 
-arbitration-time-requires : tie.Need-arbitration-time-requires
-arbitration-time-requires c κs = search needs
-
-add-clock : tie.Need-add-clock
-add-clock c = search needs
-
-asked-if-requires : tie.Need-asked-if-requires
-asked-if-requires c κs = search needs
-
-add-grant-requires : tie.Need-add-grant-requires
-add-grant-requires c κs = search needs
-
 returns : tie.Need-returns
 unfolding grantedBy
 returns c = rw (c .before .asked-if .ensures, c .before .before .before .arbitration-time .ensures, c .add-grant .ensures)
@@ -22,4 +10,9 @@ returns c = rw (c .before .asked-if .ensures, c .before .before .before .arbitra
 pub granted-spec : {M : Type 1} → statement M
 granted-spec =
     tie.close
-    (tie.spec arbitration-time-requires add-clock asked-if-requires add-grant-requires returns)
+    (tie.spec
+    (λ c κs. search needs)  -- arbitration-time-requires
+    (λ c. search needs)  -- add-clock
+    (λ c κs. search needs)  -- asked-if-requires
+    (λ c κs. search needs)  -- add-grant-requires
+    returns)

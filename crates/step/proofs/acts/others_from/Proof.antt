@@ -17,26 +17,11 @@ loop-holds : tie.Need-loop-holds Inv-loop μ-loop
 unfolding othersFrom
 loop-holds c = refl
 
-cast-if1 : tie.Need-cast-if1 Inv-loop μ-loop
-cast-if1 c = omega arith
-
-mul-if1 : tie.Need-mul-if1 Inv-loop μ-loop
-mul-if1 c = omega arith
-
-element-copy-out-if1 : tie.Need-element-copy-out-if1 Inv-loop μ-loop
-element-copy-out-if1 c = omega arith
-
 returns : tie.Need-returns Inv-loop μ-loop
 unfolding asksBeside
 returns c = let l = c .before .before .before .loop in sym (from-hit (asksBeside
     (c .before .before .before .before .args .left .now) (c .before .before .before .before .args .owner)) (l .level)
     (places - l .level) (l .level) (omega arith) (omega arith) (c .if1 .taken)) ∙ l .inv
-
-add-level : tie.Need-add-level Inv-loop μ-loop
-add-level c = omega arith
-
-loop-less : tie.Need-loop-less Inv-loop μ-loop
-loop-less c = omega arith
 
 loop-again : tie.Need-loop-again Inv-loop μ-loop
 unfolding asksBeside
@@ -55,11 +40,11 @@ others-from-spec =
     Inv-loop
     μ-loop
     loop-holds
-    cast-if1
-    mul-if1
-    element-copy-out-if1
+    (λ c. omega arith)  -- cast-if1
+    (λ c. omega arith)  -- mul-if1
+    (λ c. omega arith)  -- element-copy-out-if1
     returns
-    add-level
-    loop-less
+    (λ c. omega arith)  -- add-level
+    (λ c. omega arith)  -- loop-less
     loop-again
     returns-2)

@@ -4,9 +4,6 @@ use borrow.Author.Needs.{needs}
 use Rattle.step.proofs.acts.standing_after.Statement.{statement}
 use Rattle.step.proofs.acts.standing_after.Tie as tie
 
-is-kept-requires : tie.Need-is-kept-requires
-is-kept-requires c κs = search needs
-
 returns : tie.Need-returns
 unfolding standingAfter
 returns c = rw (sym (c .before .is-kept .ensures) ∙ c .if1 .taken)
@@ -16,4 +13,7 @@ unfolding standingAfter
 returns-2 c = rw (sym (c .before .is-kept .ensures) ∙ c .if1 .left)
 
 pub standing-after-spec : {M : Type 1} → statement M
-standing-after-spec = tie.close (tie.spec is-kept-requires returns returns-2)
+standing-after-spec = tie.close (tie.spec
+    (λ c κs. search needs)  -- is-kept-requires
+    returns
+    returns-2)

@@ -18,27 +18,12 @@ loop-holds : tie.Need-loop-holds Inv-loop μ-loop
 unfolding waitsFrom
 loop-holds c = refl
 
-mul-if1 : tie.Need-mul-if1 Inv-loop μ-loop
-mul-if1 c = omega arith
-
-element-copy-out-if1 : tie.Need-element-copy-out-if1 Inv-loop μ-loop
-element-copy-out-if1 c = omega arith
-
-element-copy-out-if1-2 : tie.Need-element-copy-out-if1-2 Inv-loop μ-loop
-element-copy-out-if1-2 c = omega arith
-
 returns : tie.Need-returns Inv-loop μ-loop
 unfolding waits
 returns c = let l = c .before .before .before .before .loop in sym (from-hit (waits
     (c .before .before .before .before .before .args .left .now) (c .before .before .before .before .before .args .inactive .now))
     (l .level)
     (places - l .level) (l .level) (omega arith) (omega arith) (c .if1 .taken)) ∙ l .inv
-
-add-level : tie.Need-add-level Inv-loop μ-loop
-add-level c = omega arith
-
-loop-less : tie.Need-loop-less Inv-loop μ-loop
-loop-less c = omega arith
 
 loop-again : tie.Need-loop-again Inv-loop μ-loop
 unfolding waits
@@ -57,11 +42,11 @@ waits-from-spec =
     Inv-loop
     μ-loop
     loop-holds
-    mul-if1
-    element-copy-out-if1
-    element-copy-out-if1-2
+    (λ c. omega arith)  -- mul-if1
+    (λ c. omega arith)  -- element-copy-out-if1
+    (λ c. omega arith)  -- element-copy-out-if1-2
     returns
-    add-level
-    loop-less
+    (λ c. omega arith)  -- add-level
+    (λ c. omega arith)  -- loop-less
     loop-again
     returns-2)

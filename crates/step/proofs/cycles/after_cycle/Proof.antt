@@ -4,19 +4,10 @@ use borrow.Author.Needs.{needs}
 use Rattle.step.proofs.cycles.after_cycle.Statement.{statement}
 use Rattle.step.proofs.cycles.after_cycle.Tie as tie
 
-no-request-requires : tie.Need-no-request-requires
-no-request-requires c κs = search needs
-
-released-by-requires : tie.Need-released-by-requires
-released-by-requires c κs = search needs
-
 returns : tie.Need-returns
 returns c =
     let four = c .before .before .before .before in
     rw (c .before .no-request .ensures, c .released-by .ensures) (after-done _ _ _ _ _ (four .pre .1) (c .before .before .if1 .taken))
-
-rest-of-requires : tie.Need-rest-of-requires
-rest-of-requires c κs = search needs
 
 is-leaving-requires : tie.Need-is-leaving-requires
 is-leaving-requires c κs =
@@ -30,9 +21,6 @@ is-leaving-requires c κs =
             (c .before .if1 .left),
       ),
     )
-
-released-by-requires-2 : tie.Need-released-by-requires-2
-released-by-requires-2 c κs = search needs
 
 returns-2 : tie.Need-returns-2
 returns-2 c =
@@ -50,11 +38,11 @@ pub after-cycle-spec : {M : Type 1} → statement M
 after-cycle-spec =
     tie.close
     (tie.spec
-    no-request-requires
-    released-by-requires
+    (λ c κs. search needs)  -- no-request-requires
+    (λ c κs. search needs)  -- released-by-requires
     returns
-    rest-of-requires
+    (λ c κs. search needs)  -- rest-of-requires
     is-leaving-requires
-    released-by-requires-2
+    (λ c κs. search needs)  -- released-by-requires-2
     returns-2
     returns-3)

@@ -10,23 +10,11 @@ move-bytes-requires c κs = let r = c .before .before .before .before .before .b
 move-bytes-requires-2 : tie.Need-move-bytes-requires-2
 move-bytes-requires-2 c κs = let r = c .before .before .before .before .before .before .pre in (r .master, r .slave)
 
-same-length : tie.Need-same-length
-same-length c = search needs
-
-same-length-2 : tie.Need-same-length-2
-same-length-2 c = search needs
-
 returns : tie.Need-returns
 unfolding movedSlave movedMaster
 returns c =
     let e = eq-eqb _ 0 (c .before .before .before .before .before .if1 .taken) in
     (rw e, rw e (c .before .before .move-bytes .ensures))
-
-same-length-3 : tie.Need-same-length-3
-same-length-3 c = search needs
-
-same-length-4 : tie.Need-same-length-4
-same-length-4 c = search needs
 
 returns-2 : tie.Need-returns-2
 unfolding movedSlave movedMaster
@@ -40,9 +28,9 @@ carry-spec =
     (tie.spec
     move-bytes-requires
     move-bytes-requires-2
-    same-length
-    same-length-2
+    (λ c. search needs)  -- same-length
+    (λ c. search needs)  -- same-length-2
     returns
-    same-length-3
-    same-length-4
+    (λ c. search needs)  -- same-length-3
+    (λ c. search needs)  -- same-length-4
     returns-2)

@@ -5,15 +5,6 @@ use Rattle.act.specs.Cycle.{isLate}
 use Rattle.step.proofs.cycles.is_late.Statement.{statement}
 use Rattle.step.proofs.cycles.is_late.Tie as tie
 
-enum-told : tie.Need-enum-told
-enum-told c = search needs
-
-enum-known-asked : tie.Need-enum-known-asked
-enum-known-asked c = search needs
-
-has-linger-requires : tie.Need-has-linger-requires
-has-linger-requires c κs = search needs
-
 returns : tie.Need-returns
 unfolding isLate
 returns c =
@@ -22,12 +13,6 @@ returns c =
       sym (c .before .has-linger .ensures)
           ∙ not-true (c .before .has-linger .result) (c .if1 .taken),
     )
-
-next-time-requires : tie.Need-next-time-requires
-next-time-requires c κs = search needs
-
-is-within-requires : tie.Need-is-within-requires
-is-within-requires c κs = search needs
 
 returns-2 : tie.Need-returns-2
 unfolding isLate
@@ -45,11 +30,11 @@ pub is-late-spec : {M : Type 1} → statement M
 is-late-spec =
     tie.close
     (tie.spec
-    enum-told
-    enum-known-asked
-    has-linger-requires
+    (λ c. search needs)  -- enum-told
+    (λ c. search needs)  -- enum-known-asked
+    (λ c κs. search needs)  -- has-linger-requires
     returns
-    next-time-requires
-    is-within-requires
+    (λ c κs. search needs)  -- next-time-requires
+    (λ c κs. search needs)  -- is-within-requires
     returns-2
     returns-3)

@@ -5,14 +5,8 @@ use Rattle.step.proofs.AfterLaws.{leaves-inside, leaves-single, leaves-
 use Rattle.step.proofs.cycles.is_leaving.Statement.{statement}
 use Rattle.step.proofs.cycles.is_leaving.Tie as tie
 
-is-inside-requires : tie.Need-is-inside-requires
-is-inside-requires c κs = search needs
-
 returns : tie.Need-returns
 returns c = leaves-inside _ _ _ _ (c .before .before .pre .1 .1) (sym (c .before .is-inside .ensures) ∙ c .if1 .taken)
-
-has-burst-requires : tie.Need-has-burst-requires
-has-burst-requires c κs = search needs
 
 returns-2 : tie.Need-returns-2
 returns-2 c =
@@ -37,4 +31,10 @@ returns-3 c =
 pub is-leaving-spec : {M : Type 1} → statement M
 is-leaving-spec =
     tie.close
-    (tie.spec is-inside-requires returns has-burst-requires returns-2 is-late-requires returns-3)
+    (tie.spec
+    (λ c κs. search needs)  -- is-inside-requires
+    returns
+    (λ c κs. search needs)  -- has-burst-requires
+    returns-2
+    is-late-requires
+    returns-3)

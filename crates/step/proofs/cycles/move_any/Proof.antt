@@ -17,24 +17,6 @@ abbrev μ-loop : tie.MeasureT-loop
 loop-holds : tie.Need-loop-holds Inv-loop μ-loop
 loop-holds c = (omega arith, paste-zero (c .args .target .now) (c .args .to) (drop (c .args .from) (c .args .source .now)), refl)
 
-add-target : tie.Need-add-target Inv-loop μ-loop
-add-target c = omega arith
-
-shared-slice-read-target : tie.Need-shared-slice-read-target Inv-loop μ-loop
-shared-slice-read-target c = omega arith
-
-add-target-2 : tie.Need-add-target-2 Inv-loop μ-loop
-add-target-2 c = omega arith
-
-slice-write-target : tie.Need-slice-write-target Inv-loop μ-loop
-slice-write-target c = omega arith
-
-add-i : tie.Need-add-i Inv-loop μ-loop
-add-i c = omega arith
-
-loop-less : tie.Need-loop-less Inv-loop μ-loop
-loop-less c = omega arith
-
 loop-again : tie.Need-loop-again Inv-loop μ-loop
 loop-again c =
     let l = c .before .before in
@@ -61,12 +43,12 @@ move-any-spec =
     Inv-loop
     μ-loop
     loop-holds
-    add-target
-    shared-slice-read-target
-    add-target-2
-    slice-write-target
-    add-i
-    loop-less
+    (λ c. omega arith)  -- add-target
+    (λ c. omega arith)  -- shared-slice-read-target
+    (λ c. omega arith)  -- add-target-2
+    (λ c. omega arith)  -- slice-write-target
+    (λ c. omega arith)  -- add-i
+    (λ c. omega arith)  -- loop-less
     loop-again
     same-length
     returns)

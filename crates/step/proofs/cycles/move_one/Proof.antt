@@ -7,15 +7,6 @@ use borrow.Author.Needs.{needs}
 use Rattle.step.proofs.cycles.move_one.Statement.{statement}
 use Rattle.step.proofs.cycles.move_one.Tie as tie
 
-shared-slice-read-a : tie.Need-shared-slice-read-a
-shared-slice-read-a c = search needs
-
-slice-write-target : tie.Need-slice-write-target
-slice-write-target c = search needs
-
-same-length : tie.Need-same-length
-same-length c = search needs
-
 returns : tie.Need-returns
 returns c =
     let a = c .before .args in
@@ -23,4 +14,8 @@ returns c =
     simp (getD-drop, add-zero) at p
 
 pub move-one-spec : {M : Type 1} → statement M
-move-one-spec = tie.close (tie.spec shared-slice-read-a slice-write-target same-length returns)
+move-one-spec = tie.close (tie.spec
+    (λ c. search needs)  -- shared-slice-read-a
+    (λ c. search needs)  -- slice-write-target
+    (λ c. search needs)  -- same-length
+    returns)

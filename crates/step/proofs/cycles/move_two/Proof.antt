@@ -7,26 +7,8 @@ use borrow.Author.Needs.{needs}
 use Rattle.step.proofs.cycles.move_two.Statement.{statement}
 use Rattle.step.proofs.cycles.move_two.Tie as tie
 
-shared-slice-read-a : tie.Need-shared-slice-read-a
-shared-slice-read-a c = search needs
-
-add-b : tie.Need-add-b
-add-b c = search needs
-
-shared-slice-read-b : tie.Need-shared-slice-read-b
-shared-slice-read-b c = search needs
-
-slice-write-target : tie.Need-slice-write-target
-slice-write-target c = search needs
-
-add-target : tie.Need-add-target
-add-target c = search needs
-
 slice-write-target-2 : tie.Need-slice-write-target-2
 slice-write-target-2 c = simp length-set (omega arith)
-
-same-length : tie.Need-same-length
-same-length c = search needs
 
 returns : tie.Need-returns
 returns c =
@@ -38,11 +20,11 @@ pub move-two-spec : {M : Type 1} → statement M
 move-two-spec =
     tie.close
     (tie.spec
-    shared-slice-read-a
-    add-b
-    shared-slice-read-b
-    slice-write-target
-    add-target
+    (λ c. search needs)  -- shared-slice-read-a
+    (λ c. search needs)  -- add-b
+    (λ c. search needs)  -- shared-slice-read-b
+    (λ c. search needs)  -- slice-write-target
+    (λ c. search needs)  -- add-target
     slice-write-target-2
-    same-length
+    (λ c. search needs)  -- same-length
     returns)

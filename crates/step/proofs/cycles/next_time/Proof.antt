@@ -8,15 +8,6 @@ use Rattle.step.proofs.ByteLaws.{time-four, time-two, time-one, one-lef
 use Rattle.step.proofs.cycles.next_time.Statement.{statement}
 use Rattle.step.proofs.cycles.next_time.Tie as tie
 
-smaller-requires : tie.Need-smaller-requires
-smaller-requires c κs = search needs
-
-narrow-requires : tie.Need-narrow-requires
-narrow-requires c κs = search needs
-
-cast-result : tie.Need-cast-result
-cast-result c = search needs
-
 returns : tie.Need-returns
 returns c =
     let p = c .before .before .before .before .pre in
@@ -27,12 +18,6 @@ add-result c =
     let m = c .before .before .before .smaller .ensures in
     record { fits = omega (arith, m, width-some _ (c .before .before .before .before .pre .0) .1) }
 
-cast-result-2 : tie.Need-cast-result-2
-cast-result-2 c = search needs
-
-cast-result-3 : tie.Need-cast-result-3
-cast-result-3 c = search needs
-
 mul-result : tie.Need-mul-result
 mul-result c = record { fits = product-below 32 (search needs) (search needs) }
 
@@ -41,12 +26,6 @@ returns-2 c =
     let p = c .before .before .before .before .before .pre in
     time-two _ _ (p .0) (p .1 .0) (p .1 .1 .0) (p .1 .1 .1) (sym (c .before .before .before .narrow .ensures) ∙ c .before .if2 .taken)
     (c .before .before .before .before .smaller .ensures)
-
-cast-result-4 : tie.Need-cast-result-4
-cast-result-4 c = search needs
-
-cast-result-5 : tie.Need-cast-result-5
-cast-result-5 c = search needs
 
 mul-result-2 : tie.Need-mul-result-2
 mul-result-2 c = record { fits = product-below 32 (search needs) (search needs) }
@@ -64,16 +43,16 @@ pub next-time-spec : {M : Type 1} → statement M
 next-time-spec =
     tie.close
     (tie.spec
-    smaller-requires
-    narrow-requires
-    cast-result
+    (λ c κs. search needs)  -- smaller-requires
+    (λ c κs. search needs)  -- narrow-requires
+    (λ c. search needs)  -- cast-result
     returns
     add-result
-    cast-result-2
-    cast-result-3
+    (λ c. search needs)  -- cast-result-2
+    (λ c. search needs)  -- cast-result-3
     mul-result
     returns-2
-    cast-result-4
-    cast-result-5
+    (λ c. search needs)  -- cast-result-4
+    (λ c. search needs)  -- cast-result-5
     mul-result-2
     returns-3)

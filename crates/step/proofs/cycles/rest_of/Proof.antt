@@ -5,15 +5,6 @@ use borrow.Author.Needs.{needs}
 use Rattle.step.proofs.cycles.rest_of.Statement.{statement}
 use Rattle.step.proofs.cycles.rest_of.Tie as tie
 
-add-t3 : tie.Need-add-t3
-add-t3 c = search needs
-
-sub-t4 : tie.Need-sub-t4
-sub-t4 c = search needs
-
-add-t5 : tie.Need-add-t5
-add-t5 c = search needs
-
 returns : tie.Need-returns
 unfolding restAfter
 returns c =
@@ -21,4 +12,8 @@ returns c =
     rw (ne-eqb (a .bytes) (a .request .left) (λ e. omega (arith, e, c .before .before .before .pre .0)))
 
 pub rest-of-spec : {M : Type 1} → statement M
-rest-of-spec = tie.close (tie.spec add-t3 sub-t4 add-t5 returns)
+rest-of-spec = tie.close (tie.spec
+    (λ c. search needs)  -- add-t3
+    (λ c. search needs)  -- sub-t4
+    (λ c. search needs)  -- add-t5
+    returns)

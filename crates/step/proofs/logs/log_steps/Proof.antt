@@ -25,17 +25,8 @@ abbrev μ-loop : tie.MeasureT-loop
     space address left offset log =
     nearness budget (log .full) (log .done)
 
-paths-of-requires : tie.Need-paths-of-requires Inv-loop μ-loop
-paths-of-requires c κs = tt
-
 loop-holds : tie.Need-loop-holds Inv-loop μ-loop
 loop-holds c = (refl, refl, refl, λ setup g. logs-first setup _ _ _ refl g)
-
-has-room-requires : tie.Need-has-room-requires Inv-loop μ-loop
-has-room-requires c κs = tt
-
-place-at-requires : tie.Need-place-at-requires Inv-loop μ-loop
-place-at-requires c κs = tt
 
 mul-path : tie.Need-mul-path Inv-loop μ-loop
 mul-path c =
@@ -115,12 +106,6 @@ loop-again c =
           (fifteen .before .before .place-at .ensures) _ (five .before .log-step .ensures),
     )
 
-verdict-of-requires : tie.Need-verdict-of-requires Inv-loop μ-loop
-verdict-of-requires c κs = tt
-
-channel-of-requires : tie.Need-channel-of-requires Inv-loop μ-loop
-channel-of-requires c κs = tt
-
 same-length : tie.Need-same-length Inv-loop μ-loop
 same-length c = c .before .before .before .before .before .before .before .before .loop .inv .0
 
@@ -155,17 +140,17 @@ log-steps-spec =
     (tie.spec
     Inv-loop
     μ-loop
-    paths-of-requires
+    (λ c κs. tt)  -- paths-of-requires
     loop-holds
-    has-room-requires
-    place-at-requires
+    (λ c κs. tt)  -- has-room-requires
+    (λ c κs. tt)  -- place-at-requires
     mul-path
     array-copy-out-path
     log-step-requires
     loop-less
     loop-again
-    verdict-of-requires
-    channel-of-requires
+    (λ c κs. tt)  -- verdict-of-requires
+    (λ c κs. tt)  -- channel-of-requires
     same-length
     same-length-2
     same-length-3

@@ -4,18 +4,6 @@ use borrow.Author.Needs.{needs}
 use Rattle.step.proofs.turns.cycle_on.Statement.{statement}
 use Rattle.step.proofs.turns.cycle_on.Tie as tie
 
-add-clock : tie.Need-add-clock
-add-clock c = search needs
-
-after-cycle-requires : tie.Need-after-cycle-requires
-after-cycle-requires c κs = search needs
-
-add-cycle-requires : tie.Need-add-cycle-requires
-add-cycle-requires c κs = search needs
-
-add-t10 : tie.Need-add-t10
-add-t10 c = search needs
-
 returns : tie.Need-returns
 unfolding cycled afterOf
 returns c = let after = c .before .before .before .after-cycle .ensures in rw
@@ -23,4 +11,9 @@ returns c = let after = c .before .before .before .after-cycle .ensures in rw
 
 pub cycle-on-spec : {M : Type 1} → statement M
 cycle-on-spec =
-    tie.close (tie.spec add-clock after-cycle-requires add-cycle-requires add-t10 returns)
+    tie.close (tie.spec
+    (λ c. search needs)  -- add-clock
+    (λ c κs. search needs)  -- after-cycle-requires
+    (λ c κs. search needs)  -- add-cycle-requires
+    (λ c. search needs)  -- add-t10
+    returns)

@@ -27,12 +27,6 @@ abbrev μ-loop : tie.MeasureT-loop
 loop-holds : tie.Need-loop-holds Inv-loop μ-loop
 loop-holds c = (c .before .before .pre .0, c .before .before .pre .1 .0, refl, refl, refl)
 
-is-full-requires : tie.Need-is-full-requires Inv-loop μ-loop
-is-full-requires c κs = tt
-
-fill-requires : tie.Need-fill-requires Inv-loop μ-loop
-fill-requires c κs = tt
-
 same-length : tie.Need-same-length Inv-loop μ-loop
 same-length c =
     let five = c .before .before .before .before .before in
@@ -75,9 +69,6 @@ cycle-on-requires c κs =
         (room, omega (arith, ten .before .before .if1 .taken, fifteen .before .before .pre .1 .1)),
       ),
     )
-
-is-kept-requires : tie.Need-is-kept-requires Inv-loop μ-loop
-is-kept-requires c κs = tt
 
 same-length-3 : tie.Need-same-length-3 Inv-loop μ-loop
 same-length-3 c =
@@ -167,8 +158,8 @@ hold-channel-spec =
     Inv-loop
     μ-loop
     loop-holds
-    is-full-requires
-    fill-requires
+    (λ c κs. tt)  -- is-full-requires
+    (λ c κs. tt)  -- fill-requires
     same-length
     same-length-2
     returns
@@ -176,7 +167,7 @@ hold-channel-spec =
     carry-of-requires
     carry-requires
     cycle-on-requires
-    is-kept-requires
+    (λ c κs. tt)  -- is-kept-requires
     same-length-3
     same-length-4
     returns-2

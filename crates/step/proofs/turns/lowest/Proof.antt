@@ -15,23 +15,8 @@ abbrev μ-loop : tie.MeasureT-loop
 loop-holds : tie.Need-loop-holds Inv-loop μ-loop
 loop-holds c = (omega arith, λ l h. absurd (omega (arith, h)))
 
-cast-if1 : tie.Need-cast-if1 Inv-loop μ-loop
-cast-if1 c = omega arith
-
-mul-if1 : tie.Need-mul-if1 Inv-loop μ-loop
-mul-if1 c = omega arith
-
-element-copy-out-if1 : tie.Need-element-copy-out-if1 Inv-loop μ-loop
-element-copy-out-if1 c = omega arith
-
 returns : tie.Need-returns Inv-loop μ-loop
 returns c = c .before .before .before .loop .inv
-
-add-level : tie.Need-add-level Inv-loop μ-loop
-add-level c = omega arith
-
-loop-less : tie.Need-loop-less Inv-loop μ-loop
-loop-less c = omega arith
 
 loop-again : tie.Need-loop-again Inv-loop μ-loop
 loop-again c = let l = c .before .before .before .loop in (
@@ -50,11 +35,11 @@ lowest-spec =
     Inv-loop
     μ-loop
     loop-holds
-    cast-if1
-    mul-if1
-    element-copy-out-if1
+    (λ c. omega arith)  -- cast-if1
+    (λ c. omega arith)  -- mul-if1
+    (λ c. omega arith)  -- element-copy-out-if1
     returns
-    add-level
-    loop-less
+    (λ c. omega arith)  -- add-level
+    (λ c. omega arith)  -- loop-less
     loop-again
     returns-2)

@@ -4,27 +4,6 @@ use borrow.Author.Needs.{needs}
 use Rattle.step.proofs.turns.run_cycles.Statement.{statement}
 use Rattle.step.proofs.turns.run_cycles.Tie as tie
 
-hold-channel-requires : tie.Need-hold-channel-requires
-hold-channel-requires c κs = search needs
-
-put-slot-requires : tie.Need-put-slot-requires
-put-slot-requires c κs = search needs
-
-is-marked-requires : tie.Need-is-marked-requires
-is-marked-requires c κs = search needs
-
-element-write-inactive : tie.Need-element-write-inactive
-element-write-inactive c = search needs
-
-standing-after-requires : tie.Need-standing-after-requires
-standing-after-requires c κs = search needs
-
-same-length : tie.Need-same-length
-same-length c = search needs
-
-same-length-2 : tie.Need-same-length-2
-same-length-2 c = search needs
-
 returns : tie.Need-returns
 returns c =
     let five = c .before .before .before .before .before in
@@ -46,11 +25,11 @@ pub run-cycles-spec : {M : Type 1} → statement M
 run-cycles-spec =
     tie.close
     (tie.spec
-    hold-channel-requires
-    put-slot-requires
-    is-marked-requires
-    element-write-inactive
-    standing-after-requires
-    same-length
-    same-length-2
+    (λ c κs. search needs)  -- hold-channel-requires
+    (λ c κs. search needs)  -- put-slot-requires
+    (λ c κs. search needs)  -- is-marked-requires
+    (λ c. search needs)  -- element-write-inactive
+    (λ c κs. search needs)  -- standing-after-requires
+    (λ c. search needs)  -- same-length
+    (λ c. search needs)  -- same-length-2
     returns)

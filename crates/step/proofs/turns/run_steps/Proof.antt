@@ -40,12 +40,6 @@ abbrev μ-loop : tie.MeasureT-loop
     address left offset state =
     nearness budget (state .full) (state .done)
 
-paths-of-requires : tie.Need-paths-of-requires Inv-loop μ-loop
-paths-of-requires c κs = tt
-
-lowest-requires : tie.Need-lowest-requires Inv-loop μ-loop
-lowest-requires c κs = tt
-
 loop-holds : tie.Need-loop-holds Inv-loop μ-loop
 loop-holds c =
     let five = c .before .before .before .before .before in
@@ -54,9 +48,6 @@ loop-holds c =
     let s = fifteen .before in
     let low = c .lowest .ensures in
     (refl, refl, start-lows (s .args .setup) (s .args .channel) _ _ _ (s .pre .0) (low .0) (low .1), λ setup g. runs-first setup _ _ _ refl g)
-
-place-at-requires : tie.Need-place-at-requires Inv-loop μ-loop
-place-at-requires c κs = tt
 
 mul-path : tie.Need-mul-path Inv-loop μ-loop
 mul-path c =
@@ -140,12 +131,6 @@ loop-again c =
           (ten .before .before .before .before .place-at .ensures) (c .before .before .before .before .turn .ensures .0)),
     )
 
-verdict-of-requires : tie.Need-verdict-of-requires Inv-loop μ-loop
-verdict-of-requires c κs = tt
-
-channel-of-requires : tie.Need-channel-of-requires Inv-loop μ-loop
-channel-of-requires c κs = tt
-
 same-length : tie.Need-same-length Inv-loop μ-loop
 same-length c =
     let five = c .before .before .before .before .before in
@@ -178,17 +163,17 @@ run-steps-spec =
     (tie.spec
     Inv-loop
     μ-loop
-    paths-of-requires
-    lowest-requires
+    (λ c κs. tt)  -- paths-of-requires
+    (λ c κs. tt)  -- lowest-requires
     loop-holds
-    place-at-requires
+    (λ c κs. tt)  -- place-at-requires
     mul-path
     array-copy-out-path
     turn-requires
     loop-less
     loop-again
-    verdict-of-requires
-    channel-of-requires
+    (λ c κs. tt)  -- verdict-of-requires
+    (λ c κs. tt)  -- channel-of-requires
     same-length
     same-length-2
     returns)

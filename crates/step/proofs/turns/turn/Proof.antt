@@ -11,15 +11,6 @@ use borrow.Author.Needs.{needs}
 use Rattle.step.proofs.turns.turn.Statement.{statement}
 use Rattle.step.proofs.turns.turn.Tie as tie
 
-enum-told : tie.Need-enum-told
-enum-told c = search needs
-
-arbitration-time-requires : tie.Need-arbitration-time-requires
-arbitration-time-requires c κs = search needs
-
-is-full-requires : tie.Need-is-full-requires
-is-full-requires c κs = search needs
-
 returns : tie.Need-returns
 returns c =
     let five = c .before .before .before .before .before in
@@ -47,26 +38,11 @@ granted-requires c κs =
     (sym (five .arbitration-time .ensures)) ∙ sym (c .before .before .before .before .is-full .ensures)
     ∙ c .before .before .before .if1 .left)
 
-stepped-on-requires : tie.Need-stepped-on-requires
-stepped-on-requires c κs = search needs
-
-enum-known-phase : tie.Need-enum-known-phase
-enum-known-phase c = search needs
-
-cast-at : tie.Need-cast-at
-cast-at c = search needs
-
 slot-at-requires : tie.Need-slot-at-requires
 slot-at-requires c κs =
     let five = c .before .before .before .before .before in
     let ten = five .before .before .before .before .before in
     ten .before .pre .owned _ (five .before .phase .given .1) .small
-
-rest-requires : tie.Need-rest-requires
-rest-requires c κs = search needs
-
-stepped-on-requires-2 : tie.Need-stepped-on-requires-2
-stepped-on-requires-2 c κs = search needs
 
 returns-2 : tie.Need-returns-2
 returns-2 c =
@@ -110,12 +86,6 @@ returns-3 c =
           (c .stepped-on .ensures),
     )
 
-same-length : tie.Need-same-length
-same-length c = search needs
-
-same-length-2 : tie.Need-same-length-2
-same-length-2 c = search needs
-
 returns-4 : tie.Need-returns-4
 returns-4 c =
     let five = c .before .before .before .before .before in
@@ -139,21 +109,21 @@ pub turn-spec : {M : Type 1} → statement M
 turn-spec =
     tie.close
     (tie.spec
-    enum-told
-    arbitration-time-requires
-    is-full-requires
+    (λ c. search needs)  -- enum-told
+    (λ c κs. search needs)  -- arbitration-time-requires
+    (λ c κs. search needs)  -- is-full-requires
     returns
     choose-requires
     granted-requires
-    stepped-on-requires
-    enum-known-phase
-    cast-at
+    (λ c κs. search needs)  -- stepped-on-requires
+    (λ c. search needs)  -- enum-known-phase
+    (λ c. search needs)  -- cast-at
     slot-at-requires
-    rest-requires
-    stepped-on-requires-2
+    (λ c κs. search needs)  -- rest-requires
+    (λ c κs. search needs)  -- stepped-on-requires-2
     returns-2
     run-cycles-requires
     returns-3
-    same-length
-    same-length-2
+    (λ c. search needs)  -- same-length
+    (λ c. search needs)  -- same-length-2
     returns-4)
