@@ -54,8 +54,6 @@ function read_wrong(text,    each, n, i, part) {
     for (i = 1; i <= n; i++) if (split(each[i], part, ": ") == 2) { gsub(/[` ]/, "", part[1]); gsub(/[` ]/, "", part[2]); need("wrong\t" part[1] "\t" part[2]) }
 }
 
-/^## Every public function/ { in_functions = 1 }
-in_functions && /^\| `/ { next }
 /^```/ { inside = !inside; next }
 inside { next }
 !/^\|/ { split("", kinds); kind = "name"; read_cell($0); next }
