@@ -5,8 +5,8 @@ use Rattle.channel.proofs.asked_if.Tie as tie
 returns : tie.Need-returns
 returns c = rw (c .if1 .taken)
 
+returns-2 : tie.Need-returns-2
+returns-2 c = search needs
+
 pub asked-if-spec : {M : Type 1} → statement M
-asked-if-spec = tie.close (tie.spec
-    returns
-    (λ c. search needs)  -- returns-2
-    )
+asked-if-spec = tie.close (tie.spec returns returns-2)

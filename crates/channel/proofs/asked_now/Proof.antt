@@ -2,6 +2,9 @@ use borrow.Author.Needs.{needs}
 use Rattle.channel.proofs.asked_now.Statement.{statement}
 use Rattle.channel.proofs.asked_now.Tie as tie
 
+returns : tie.Need-returns
+returns c = search needs
+
 returns-2 : tie.Need-returns-2
 returns-2 c = rw (c .before .before .before .enum-told2 .given .1, c .before .asked .given .1)
 
@@ -17,6 +20,6 @@ asked-now-spec =
     (λ c. search needs)  -- enum-known-asked
     (λ c. search needs)  -- enum-told-3
     (λ c κs. search needs)  -- asked-if-requires
-    (λ c. search needs)  -- returns
+    returns
     returns-2
     returns-3)

@@ -13,7 +13,9 @@ unfolding cleared
 returns-2 c = rw (sym (c .before .before .line-active .ensures) ∙ c .before .if1 .left)
 
 pub clear-marks-spec : {M : Type 1} → statement M
-clear-marks-spec = tie.close (tie.spec
+clear-marks-spec =
+    tie.close
+    (tie.spec
     (λ c κs. search needs)  -- line-active-requires
     returns
     returns-2)

@@ -19,6 +19,9 @@ returns c =
     } in
     c .no-request .ensures ∙ sym (no-request (a .t1) (a .level) s (omega arith))
 
+returns-2 : tie.Need-returns-2
+returns-2 c = search needs
+
 pub request-of-spec : {M : Type 1} → statement M
 request-of-spec =
     tie.close
@@ -35,5 +38,4 @@ request-of-spec =
     (λ c. search needs)  -- element-copy-out-t20
     (λ c. search needs)  -- mul-t21
     (λ c. search needs)  -- element-copy-out-t24
-    (λ c. search needs)  -- returns-2
-    )
+    returns-2)

@@ -8,7 +8,9 @@ unfolding timed
 returns c = rw (c .before .before .before .before .before .before .asked-now .ensures, c .before .before .before .before .before .before .before .line-active .ensures)
 
 pub set-asked-spec : {M : Type 1} → statement M
-set-asked-spec = tie.close (tie.spec
+set-asked-spec =
+    tie.close
+    (tie.spec
     (λ c κs. search needs)  -- line-active-requires
     (λ c κs. search needs)  -- asked-now-requires
     returns)

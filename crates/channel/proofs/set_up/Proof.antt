@@ -13,7 +13,9 @@ unfolding setUp
 returns-2 c = rw (c .before .before .fresh-channel .ensures, sym (c .before .is-framed .ensures) ∙ c .if1 .left)
 
 pub set-up-spec : {M : Type 1} → statement M
-set-up-spec = tie.close (tie.spec
+set-up-spec =
+    tie.close
+    (tie.spec
     (λ c κs. search needs)  -- fresh-channel-requires
     (λ c κs. search needs)  -- is-framed-requires
     returns

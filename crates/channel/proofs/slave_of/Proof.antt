@@ -15,7 +15,8 @@ returns-2 c = ap slaveOr (sym (c .before .found .given .1) ∙ c .before .before
 
 pub slave-of-spec : {M : Type 1} → statement M
 slave-of-spec =
-    tie.close (tie.spec
+    tie.close
+    (tie.spec
     (λ c κs. search needs)  -- slave-row-requires
     (λ c. search needs)  -- enum-told
     (λ c. search needs)  -- enum-known-found

@@ -13,7 +13,9 @@ unfolding isPresent
 returns-2 c = ap isLevel (sym (c .enum-told2 .given .1) ∙ c .before .before .level-row .ensures)
 
 pub is-present-spec : {M : Type 1} → statement M
-is-present-spec = tie.close (tie.spec
+is-present-spec =
+    tie.close
+    (tie.spec
     (λ c κs. search needs)  -- level-row-requires
     (λ c. search needs)  -- enum-told
     (λ c. search needs)  -- enum-told-2

@@ -18,7 +18,9 @@ returns-2 c =
     sum-within (a .duration) (a .clock) (a .t + a .allowed) (omega arith)
 
 pub is-within-spec : {M : Type 1} → statement M
-is-within-spec = tie.close (tie.spec
+is-within-spec =
+    tie.close
+    (tie.spec
     (λ c. search needs)  -- add-latest
     returns
     (λ c. search needs)  -- sub-result

@@ -14,7 +14,8 @@ returns-2 c = ap levelOr (sym (c .before .found .given .1) ∙ c .before .before
 
 pub level-of-spec : {M : Type 1} → statement M
 level-of-spec =
-    tie.close (tie.spec
+    tie.close
+    (tie.spec
     (λ c κs. search needs)  -- level-row-requires
     (λ c. search needs)  -- enum-told
     (λ c. search needs)  -- enum-known-found

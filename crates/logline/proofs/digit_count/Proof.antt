@@ -19,7 +19,8 @@ returns-2 c =
 
 pub digit-count-spec : {M : Type 1} → statement M
 digit-count-spec =
-    tie.close (tie.spec
+    tie.close
+    (tie.spec
     (λ c κs. search needs)  -- few-digits-requires
     returns
     (λ c κs. search needs)  -- few-digits-requires-2

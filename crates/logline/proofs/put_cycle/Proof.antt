@@ -3,6 +3,9 @@ use borrow.Author.Needs.{needs}
 use Rattle.logline.proofs.put_cycle.Statement.{statement}
 use Rattle.logline.proofs.put_cycle.Tie as tie
 
+put-line-requires : tie.Need-put-line-requires
+put-line-requires c κs = search needs
+
 returns : tie.Need-returns
 unfolding cycleFields
 returns c =
@@ -12,9 +15,10 @@ returns c =
 
 pub put-cycle-spec : {M : Type 1} → statement M
 put-cycle-spec =
-    tie.close (tie.spec
+    tie.close
+    (tie.spec
     (λ c κs. search needs)  -- ending-number-requires
     (λ c. search needs)  -- cast-t7
-    (λ c κs. search needs)  -- put-line-requires
+    put-line-requires
     (λ c. search needs)  -- same-length
     returns)

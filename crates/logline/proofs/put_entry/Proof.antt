@@ -2,6 +2,15 @@ use borrow.Author.Needs.{needs}
 use Rattle.logline.proofs.put_entry.Statement.{statement}
 use Rattle.logline.proofs.put_entry.Tie as tie
 
+put-line-requires : tie.Need-put-line-requires
+put-line-requires c κs = search needs
+
+put-line-requires-2 : tie.Need-put-line-requires-2
+put-line-requires-2 c κs = search needs
+
+put-line-requires-3 : tie.Need-put-line-requires-3
+put-line-requires-3 c κs = search needs
+
 returns : tie.Need-returns
 returns c =
     let a = c .before .before .before .before .before .before .before .before .args in
@@ -35,15 +44,15 @@ put-entry-spec =
     tie.close
     (tie.spec
     (λ c. search needs)  -- enum-known-entry
-    (λ c κs. search needs)  -- put-line-requires
+    put-line-requires
     (λ c. search needs)  -- enum-known-entry-2
     (λ c. search needs)  -- cast-t16
-    (λ c κs. search needs)  -- put-line-requires-2
+    put-line-requires-2
     (λ c. search needs)  -- enum-known-entry-3
     (λ c κs. search needs)  -- put-cycle-requires
     (λ c. search needs)  -- enum-known-entry-4
     (λ c. search needs)  -- cast-t22
-    (λ c κs. search needs)  -- put-line-requires-3
+    put-line-requires-3
     (λ c. search needs)  -- same-length
     returns
     (λ c. search needs)  -- same-length-2

@@ -24,7 +24,8 @@ returns c =
 
 pub put-field-spec : {M : Type 1} → statement M
 put-field-spec =
-    tie.close (tie.spec
+    tie.close
+    (tie.spec
     (λ c. search needs)  -- slice-write-out
     (λ c. search needs)  -- add-put-digits
     put-digits-requires

@@ -19,7 +19,8 @@ returns-2 c =
 
 pub post-verdict-spec : {M : Type 1} → statement M
 post-verdict-spec =
-    tie.close (tie.spec
+    tie.close
+    (tie.spec
     (λ c κs. search needs)  -- sound-store-requires
     (λ c. search needs)  -- enum-told
     (λ c. search needs)  -- enum-told-2

@@ -16,6 +16,9 @@ Inv-loop list i₀ sum₀ i sum = (i ≤ length list) × (sum ≤ 5 * i) × (sum
 abbrev μ-loop : tie.MeasureT-loop
 μ-loop list i₀ sum₀ i sum = length list - i
 
+loop-holds : tie.Need-loop-holds Inv-loop μ-loop
+loop-holds c = omega arith
+
 add-sum : tie.Need-add-sum Inv-loop μ-loop
 add-sum c =
     let a = c .before .before .before .before .before .args in
@@ -37,7 +40,7 @@ bytes-size-spec =
     (tie.spec
     Inv-loop
     μ-loop
-    (λ c. omega arith)  -- loop-holds
+    loop-holds
     (λ c. omega arith)  -- mul-number-size
     (λ c. omega arith)  -- shared-slice-read-number-size
     (λ c κs. tt)  -- number-size-requires

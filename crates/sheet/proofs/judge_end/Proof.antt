@@ -10,7 +10,9 @@ returns-2 : tie.Need-returns-2
 returns-2 c = rw (← c .before .length-of .ensures, le-ltb _ _ (c .if1 .left))
 
 pub judge-end-spec : {M : Type 1} → statement M
-judge-end-spec = tie.close (tie.spec
+judge-end-spec =
+    tie.close
+    (tie.spec
     (λ c κs. search needs)  -- length-of-requires
     returns
     returns-2)

@@ -13,6 +13,9 @@ returns c = rw (
   eq-eqb _ _ (c .before .if1 .taken),
 ) (c .judge-step-count .ensures)
 
+numbers-at-requires : tie.Need-numbers-at-requires
+numbers-at-requires c κs = search needs
+
 returns-2 : tie.Need-returns-2
 unfolding event
 returns-2 c = rw (sym (c .before .before .before .number-between .ensures) ∙ c .before .got .given .1)
@@ -33,6 +36,6 @@ judge-event-spec =
     (λ c. search needs)  -- enum-known-got-2
     (λ c κs. search needs)  -- judge-step-count-requires
     returns
-    (λ c κs. search needs)  -- numbers-at-requires
+    numbers-at-requires
     returns-2
     returns-3)

@@ -14,7 +14,8 @@ returns-2 c = rw (sym (c .before .before .before .number-between .ensures) ∙ c
 
 pub judge-step-count-spec : {M : Type 1} → statement M
 judge-step-count-spec =
-    tie.close (tie.spec
+    tie.close
+    (tie.spec
     (λ c κs. search needs)  -- number-between-requires
     (λ c. search needs)  -- enum-known-got
     (λ c. search needs)  -- enum-known-got-2

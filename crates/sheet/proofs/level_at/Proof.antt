@@ -5,6 +5,9 @@ use denote.Ref.{now}
 use Rattle.sheet.proofs.level_at.Statement.{statement}
 use Rattle.sheet.proofs.level_at.Tie as tie
 
+numbers-at-requires : tie.Need-numbers-at-requires
+numbers-at-requires c κs = search needs
+
 returns : tie.Need-returns
 returns c =
     let a = c .before .before .before .before .args in
@@ -13,8 +16,9 @@ returns c =
 
 pub level-at-spec : {M : Type 1} → statement M
 level-at-spec =
-    tie.close (tie.spec
-    (λ c κs. search needs)  -- numbers-at-requires
+    tie.close
+    (tie.spec
+    numbers-at-requires
     (λ c. search needs)  -- array-read-t11
     (λ c. search needs)  -- array-read-t14
     (λ c. search needs)  -- array-read-t17

@@ -8,6 +8,9 @@ use mathlib.Core.Path.{sym, _∙_}
 use Rattle.sheet.proofs.read_sheet.Statement.{statement}
 use Rattle.sheet.proofs.read_sheet.Tie as tie
 
+copy-numbers-requires : tie.Need-copy-numbers-requires
+copy-numbers-requires c κs = search needs
+
 returns : tie.Need-returns
 unfolding readAnswer readStored
 returns c =
@@ -42,7 +45,7 @@ read-sheet-spec =
     (λ c. search needs)  -- enum-known-judged
     (λ c. search needs)  -- enum-told
     (λ c κs. search needs)  -- count-numbers-requires
-    (λ c κs. search needs)  -- copy-numbers-requires
+    copy-numbers-requires
     returns
     (λ c. search needs)  -- same-length
     returns-2

@@ -5,6 +5,9 @@ use denote.Ref.{now}
 use Rattle.sheet.proofs.slave_at.Statement.{statement}
 use Rattle.sheet.proofs.slave_at.Tie as tie
 
+numbers-at-requires : tie.Need-numbers-at-requires
+numbers-at-requires c κs = search needs
+
 returns : tie.Need-returns
 returns c =
     let a = c .before .before .before .before .args in
@@ -15,7 +18,7 @@ pub slave-at-spec : {M : Type 1} → statement M
 slave-at-spec =
     tie.close
     (tie.spec
-    (λ c κs. search needs)  -- numbers-at-requires
+    numbers-at-requires
     (λ c. search needs)  -- array-read-t11
     (λ c. search needs)  -- array-read-t14
     (λ c. search needs)  -- array-read-t17

@@ -7,6 +7,9 @@ use mathlib.Core.Path.{sym, _∙_}
 use Rattle.sheet.proofs.write_sheet.Statement.{statement}
 use Rattle.sheet.proofs.write_sheet.Tie as tie
 
+write-numbers-requires : tie.Need-write-numbers-requires
+write-numbers-requires c κs = search needs
+
 returns : tie.Need-returns
 unfolding writeAnswer writeStored
 returns c =
@@ -41,7 +44,7 @@ write-sheet-spec =
     (λ c. search needs)  -- enum-known-judged
     (λ c. search needs)  -- enum-told
     (λ c κs. search needs)  -- bytes-size-requires
-    (λ c κs. search needs)  -- write-numbers-requires
+    write-numbers-requires
     returns
     (λ c. search needs)  -- same-length
     returns-2

@@ -15,6 +15,9 @@ returns-2 : tie.Need-returns-2
 unfolding eventAt
 returns-2 c = rw (eq-eqb _ _ (c .before .if2 .taken), c .number-in .ensures)
 
+post-at-requires : tie.Need-post-at-requires
+post-at-requires c κs = search needs
+
 returns-3 : tie.Need-returns-3
 unfolding eventAt
 returns-3 c = rw (ne-eqb _ _ (c .before .if2 .left), c .post-at .ensures)
@@ -29,5 +32,5 @@ event-at-spec =
     (λ c. search needs)  -- add-number-in
     (λ c κs. search needs)  -- number-in-requires
     returns-2
-    (λ c κs. search needs)  -- post-at-requires
+    post-at-requires
     returns-3)

@@ -8,7 +8,9 @@ unfolding eventCount
 returns c = rw (c .number-in .ensures, c .before .events-from .ensures .0)
 
 pub event-count-spec : {M : Type 1} → statement M
-event-count-spec = tie.close (tie.spec
+event-count-spec =
+    tie.close
+    (tie.spec
     (λ c κs. search needs)  -- events-from-requires
     (λ c κs. search needs)  -- number-in-requires
     (λ c. search needs)  -- cast-result

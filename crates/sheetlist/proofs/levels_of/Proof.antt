@@ -22,6 +22,9 @@ abbrev μ-loop : tie.MeasureT-loop
 loop-holds : tie.Need-loop-holds Inv-loop μ-loop
 loop-holds c = (omega arith, refl, refl)
 
+level-in-requires : tie.Need-level-in-requires Inv-loop μ-loop
+level-in-requires c κs = omega arith
+
 loop-again : tie.Need-loop-again Inv-loop μ-loop
 loop-again c =
     let a = c .before .before .before .before .before .before .args in
@@ -50,7 +53,7 @@ levels-of-spec =
     loop-holds
     (λ c. omega arith)  -- mul-level-in
     (λ c. omega arith)  -- add-level-in
-    (λ c κs. omega arith)  -- level-in-requires
+    level-in-requires
     (λ c. omega arith)  -- mul-rows
     (λ c. omega arith)  -- array-set-from-rows
     (λ c. omega arith)  -- add-i

@@ -8,7 +8,9 @@ unfolding setupOf
 returns c = rw (c .before .levels-of .ensures, c .slaves-of .ensures)
 
 pub setup-of-spec : {M : Type 1} → statement M
-setup-of-spec = tie.close (tie.spec
+setup-of-spec =
+    tie.close
+    (tie.spec
     (λ c κs. search needs)  -- levels-of-requires
     (λ c κs. search needs)  -- slaves-of-requires
     returns)

@@ -10,7 +10,8 @@ returns c = (rw (c .number-in .ensures), omega arith)
 
 pub slaves-from-spec : {M : Type 1} → statement M
 slaves-from-spec =
-    tie.close (tie.spec
+    tie.close
+    (tie.spec
     (λ c κs. search needs)  -- number-in-requires
     (λ c. search needs)  -- cast-result
     (λ c. search needs)  -- mul-result

@@ -22,6 +22,9 @@ abbrev μ-loop : tie.MeasureT-loop
 loop-holds : tie.Need-loop-holds Inv-loop μ-loop
 loop-holds c = (omega arith, refl, refl)
 
+slave-in-requires : tie.Need-slave-in-requires Inv-loop μ-loop
+slave-in-requires c κs = omega arith
+
 loop-again : tie.Need-loop-again Inv-loop μ-loop
 loop-again c =
     let a = c .before .before .before .before .before .before .before .args in
@@ -53,7 +56,7 @@ slaves-of-spec =
     (λ c. omega arith)  -- add-slave-in
     (λ c. omega arith)  -- mul-slave-in
     (λ c. omega arith)  -- add-slave-in-2
-    (λ c κs. omega arith)  -- slave-in-requires
+    slave-in-requires
     (λ c. omega arith)  -- mul-rows
     (λ c. omega arith)  -- array-set-from-rows
     (λ c. omega arith)  -- add-i

@@ -19,6 +19,9 @@ loop-holds : tie.Need-loop-holds Inv-loop μ-loop
 unfolding allBelow
 loop-holds c = (omega arith, refl)
 
+request-at-requires : tie.Need-request-at-requires Inv-loop μ-loop
+request-at-requires c κs = omega arith
+
 loop-again : tie.Need-loop-again Inv-loop μ-loop
 unfolding allBelow
 loop-again c =
@@ -36,7 +39,7 @@ are-blank-spec =
     Inv-loop
     μ-loop
     loop-holds
-    (λ c κs. omega arith)  -- request-at-requires
+    request-at-requires
     (λ c κs. tt)  -- is-blank-requires
     (λ c. omega arith)  -- add-level
     (λ c. omega arith)  -- loop-less

@@ -37,6 +37,9 @@ loop-holds c =
     let e : c .if1 .count ≡ presentRows (f .args .setup .slaves .count) = ⊎-elim (λ w. omega (arith, w)) (λ w. omega (arith, w)) (c .if1 .came) in
     (omega arith, e, omega arith, refl, searched-none (f .args .setup .slaves) _ _ _ (c .if1 .count) e)
 
+request-at-requires : tie.Need-request-at-requires Inv-loop μ-loop
+request-at-requires c κs = omega arith
+
 loop-again : tie.Need-loop-again Inv-loop μ-loop
 loop-again c =
     let l = c .before .before .before .before .loop in
@@ -111,7 +114,7 @@ are-open-sound-spec =
     Inv-loop
     μ-loop
     loop-holds
-    (λ c κs. omega arith)  -- request-at-requires
+    request-at-requires
     (λ c. omega arith)  -- add-level
     (λ c. omega arith)  -- loop-less
     loop-again

@@ -12,7 +12,8 @@ returns-2 c = rw (sym (c .before .before .are-blank .ensures) ∙ not-false _ (c
 
 pub are-requests-sound-spec : {M : Type 1} → statement M
 are-requests-sound-spec =
-    tie.close (tie.spec
+    tie.close
+    (tie.spec
     (λ c κs. search needs)  -- are-blank-requires
     returns
     (λ c κs. search needs)  -- are-open-sound-requires

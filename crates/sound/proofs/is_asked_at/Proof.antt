@@ -6,6 +6,8 @@ returns : tie.Need-returns
 returns c = rw (c .is-in-time .ensures)
 
 pub is-asked-at-spec : {M : Type 1} → statement M
-is-asked-at-spec = tie.close (tie.spec
+is-asked-at-spec =
+    tie.close
+    (tie.spec
     (λ c κs. search needs)  -- is-in-time-requires
     returns)

@@ -8,6 +8,8 @@ unfolding isInRange
 returns c = rw (c .before .before .is-length .ensures)
 
 pub is-in-range-spec : {M : Type 1} → statement M
-is-in-range-spec = tie.close (tie.spec
+is-in-range-spec =
+    tie.close
+    (tie.spec
     (λ c κs. search needs)  -- is-length-requires
     returns)

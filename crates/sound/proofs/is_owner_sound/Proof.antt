@@ -6,6 +6,9 @@ use mathlib.Core.Path.{sym, ap, _∙_}
 use Rattle.sound.proofs.is_owner_sound.Statement.{statement}
 use Rattle.sound.proofs.is_owner_sound.Tie as tie
 
+returns : tie.Need-returns
+returns c = search needs
+
 returns-2 : tie.Need-returns-2
 returns-2 c =
     let a = c .before .before .before .before .args in
@@ -14,9 +17,10 @@ returns-2 c =
 
 pub is-owner-sound-spec : {M : Type 1} → statement M
 is-owner-sound-spec =
-    tie.close (tie.spec
+    tie.close
+    (tie.spec
     (λ c. search needs)  -- enum-told
     (λ c. search needs)  -- enum-known-phase
     (λ c κs. search needs)  -- is-grant-sound-requires
-    (λ c. search needs)  -- returns
+    returns
     returns-2)

@@ -7,7 +7,9 @@ returns : tie.Need-returns
 returns c = refl
 
 pub is-past-master-spec : {M : Type 1} → statement M
-is-past-master-spec = tie.close (tie.spec
+is-past-master-spec =
+    tie.close
+    (tie.spec
     (λ c. search needs)  -- cast-result
     (λ c. search needs)  -- cast-result-2
     (λ c. search needs)  -- add-result

@@ -10,7 +10,8 @@ returns c = rw (c .transfer-time .ensures, c .before .slave-of .ensures, c .befo
 
 pub transfer-of-spec : {M : Type 1} → statement M
 transfer-of-spec =
-    tie.close (tie.spec
+    tie.close
+    (tie.spec
     (λ c κs. search needs)  -- level-of-requires
     (λ c κs. search needs)  -- slave-of-requires
     (λ c κs. search needs)  -- transfer-time-requires

@@ -11,7 +11,9 @@ returns-2 : tie.Need-returns-2
 returns-2 c = c .path-of .ensures ∙ rw (ne-eqb _ 0 (c .before .if1 .left))
 
 pub path-for-spec : {M : Type 1} → statement M
-path-for-spec = tie.close (tie.spec
+path-for-spec =
+    tie.close
+    (tie.spec
     returns
     (λ c. search needs)  -- cast-path-of
     (λ c κs. search needs)  -- path-of-requires

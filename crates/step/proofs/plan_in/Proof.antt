@@ -5,6 +5,9 @@ use Rattle.step.proofs.plan_in.Tie as tie
 returns : tie.Need-returns
 returns c = rw (c .before .answer .given .1)
 
+returns-2 : tie.Need-returns-2
+returns-2 c = search needs
+
 returns-3 : tie.Need-returns-3
 returns-3 c = rw (c .before .before .before .before .answer2 .given .1, c .before .entry .given .1)
 
@@ -25,7 +28,7 @@ plan-in-spec =
     (λ c. search needs)  -- enum-known-entry-2
     (λ c. search needs)  -- enum-known-entry-3
     returns
-    (λ c. search needs)  -- returns-2
+    returns-2
     returns-3
     returns-4
     returns-5)

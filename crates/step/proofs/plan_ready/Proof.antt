@@ -7,6 +7,9 @@ use borrow.Author.Needs.{needs}
 use Rattle.step.proofs.plan_ready.Statement.{statement}
 use Rattle.step.proofs.plan_ready.Tie as tie
 
+decide-ready-requires : tie.Need-decide-ready-requires
+decide-ready-requires c κs = search needs
+
 returns : tie.Need-returns
 returns c =
     let a = c .before .before .before .args in
@@ -15,7 +18,9 @@ returns c =
     ∙ plan-in (a .setup) (a .channel) (actPlan (a .setup) (a .channel))
 
 pub plan-ready-spec : {M : Type 1} → statement M
-plan-ready-spec = tie.close (tie.spec
-    (λ c κs. search needs)  -- decide-ready-requires
+plan-ready-spec =
+    tie.close
+    (tie.spec
+    decide-ready-requires
     (λ c κs. search needs)  -- plan-in-requires
     returns)

@@ -6,6 +6,8 @@ returns : tie.Need-returns
 returns c = rw (c .refused-run .ensures)
 
 pub refused-log-spec : {M : Type 1} → statement M
-refused-log-spec = tie.close (tie.spec
+refused-log-spec =
+    tie.close
+    (tie.spec
     (λ c κs. search needs)  -- refused-run-requires
     returns)

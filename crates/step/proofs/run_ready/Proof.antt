@@ -8,6 +8,9 @@ returns c =
     let t = lt-ltb _ _ (c .before .if1 .taken) in
     (rw t (c .refused-run .ensures), (rw t, rw t))
 
+run-steps-requires : tie.Need-run-steps-requires
+run-steps-requires c κs = search needs
+
 returns-2 : tie.Need-returns-2
 returns-2 c =
     let f = le-ltb _ _ (c .before .before .before .before .before .before .before .if1 .left) in
@@ -16,10 +19,11 @@ returns-2 c =
 
 pub run-ready-spec : {M : Type 1} → statement M
 run-ready-spec =
-    tie.close (tie.spec
+    tie.close
+    (tie.spec
     (λ c κs. search needs)  -- refused-run-requires
     returns
-    (λ c κs. search needs)  -- run-steps-requires
+    run-steps-requires
     (λ c. search needs)  -- same-length
     (λ c. search needs)  -- same-length-2
     returns-2)

@@ -24,7 +24,9 @@ returns c =
     )
 
 pub step-spec : {M : Type 1} → statement M
-step-spec = tie.close (tie.spec
+step-spec =
+    tie.close
+    (tie.spec
     (λ c κs. search needs)  -- decide-requires
     carry-requires
     (λ c. search needs)  -- same-length

@@ -13,7 +13,9 @@ unfolding standingAfter
 returns-2 c = rw (sym (c .before .is-kept .ensures) ∙ c .if1 .left)
 
 pub standing-after-spec : {M : Type 1} → statement M
-standing-after-spec = tie.close (tie.spec
+standing-after-spec =
+    tie.close
+    (tie.spec
     (λ c κs. search needs)  -- is-kept-requires
     returns
     returns-2)

@@ -9,6 +9,9 @@ returns c =
     let four = c .before .before .before .before in
     rw (c .before .no-request .ensures, c .released-by .ensures) (after-done _ _ _ _ _ (four .pre .1) (c .before .before .if1 .taken))
 
+rest-of-requires : tie.Need-rest-of-requires
+rest-of-requires c κs = search needs
+
 is-leaving-requires : tie.Need-is-leaving-requires
 is-leaving-requires c κs =
     let three = c .before .before .before in
@@ -41,7 +44,7 @@ after-cycle-spec =
     (λ c κs. search needs)  -- no-request-requires
     (λ c κs. search needs)  -- released-by-requires
     returns
-    (λ c κs. search needs)  -- rest-of-requires
+    rest-of-requires
     is-leaving-requires
     (λ c κs. search needs)  -- released-by-requires-2
     returns-2

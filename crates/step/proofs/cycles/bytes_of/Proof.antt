@@ -18,7 +18,9 @@ returns-3 c =
     (c .tabled .ensures)
 
 pub bytes-of-spec : {M : Type 1} → statement M
-bytes-of-spec = tie.close (tie.spec
+bytes-of-spec =
+    tie.close
+    (tie.spec
     (λ c κs. search needs)  -- narrow-requires
     returns
     returns-2

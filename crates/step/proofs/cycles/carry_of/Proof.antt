@@ -15,7 +15,9 @@ unfolding carryOf
 returns c = rw (c .before .before .before .before .pre .1)
 
 pub carry-of-spec : {M : Type 1} → statement M
-carry-of-spec = tie.close (tie.spec
+carry-of-spec =
+    tie.close
+    (tie.spec
     sub-place
     (λ c. search needs)  -- cast-place
     add-place

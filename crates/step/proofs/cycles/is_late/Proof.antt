@@ -14,6 +14,9 @@ returns c =
           ∙ not-true (c .before .has-linger .result) (c .if1 .taken),
     )
 
+next-time-requires : tie.Need-next-time-requires
+next-time-requires c κs = search needs
+
 returns-2 : tie.Need-returns-2
 unfolding isLate
 returns-2 c = rw (c .enum-told .given .1)
@@ -34,7 +37,7 @@ is-late-spec =
     (λ c. search needs)  -- enum-known-asked
     (λ c κs. search needs)  -- has-linger-requires
     returns
-    (λ c κs. search needs)  -- next-time-requires
+    next-time-requires
     (λ c κs. search needs)  -- is-within-requires
     returns-2
     returns-3)

@@ -5,6 +5,9 @@ use Rattle.step.proofs.AfterLaws.{leaves-inside, leaves-single, leaves-
 use Rattle.step.proofs.cycles.is_leaving.Statement.{statement}
 use Rattle.step.proofs.cycles.is_leaving.Tie as tie
 
+is-inside-requires : tie.Need-is-inside-requires
+is-inside-requires c κs = search needs
+
 returns : tie.Need-returns
 returns c = leaves-inside _ _ _ _ (c .before .before .pre .1 .1) (sym (c .before .is-inside .ensures) ∙ c .if1 .taken)
 
@@ -32,7 +35,7 @@ pub is-leaving-spec : {M : Type 1} → statement M
 is-leaving-spec =
     tie.close
     (tie.spec
-    (λ c κs. search needs)  -- is-inside-requires
+    is-inside-requires
     returns
     (λ c κs. search needs)  -- has-burst-requires
     returns-2

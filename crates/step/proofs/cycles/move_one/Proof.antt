@@ -14,7 +14,9 @@ returns c =
     simp (getD-drop, add-zero) at p
 
 pub move-one-spec : {M : Type 1} → statement M
-move-one-spec = tie.close (tie.spec
+move-one-spec =
+    tie.close
+    (tie.spec
     (λ c. search needs)  -- shared-slice-read-a
     (λ c. search needs)  -- slice-write-target
     (λ c. search needs)  -- same-length

@@ -12,7 +12,9 @@ returns c =
     rw (ne-eqb (a .bytes) (a .request .left) (λ e. omega (arith, e, c .before .before .before .pre .0)))
 
 pub rest-of-spec : {M : Type 1} → statement M
-rest-of-spec = tie.close (tie.spec
+rest-of-spec =
+    tie.close
+    (tie.spec
     (λ c. search needs)  -- add-t3
     (λ c. search needs)  -- sub-t4
     (λ c. search needs)  -- add-t5

@@ -4,6 +4,9 @@ use borrow.Author.Needs.{needs}
 use Rattle.step.proofs.turns.cycle_on.Statement.{statement}
 use Rattle.step.proofs.turns.cycle_on.Tie as tie
 
+after-cycle-requires : tie.Need-after-cycle-requires
+after-cycle-requires c κs = search needs
+
 returns : tie.Need-returns
 unfolding cycled afterOf
 returns c = let after = c .before .before .before .after-cycle .ensures in rw
@@ -11,9 +14,10 @@ returns c = let after = c .before .before .before .after-cycle .ensures in rw
 
 pub cycle-on-spec : {M : Type 1} → statement M
 cycle-on-spec =
-    tie.close (tie.spec
+    tie.close
+    (tie.spec
     (λ c. search needs)  -- add-clock
-    (λ c κs. search needs)  -- after-cycle-requires
+    after-cycle-requires
     (λ c κs. search needs)  -- add-cycle-requires
     (λ c. search needs)  -- add-t10
     returns)

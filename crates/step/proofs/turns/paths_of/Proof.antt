@@ -24,6 +24,9 @@ loop-again c =
     let l = c .before .before .before .loop in
     (omega arith, l .inv .1, path-none _ _ (l .paths) (l .level) (l .inv .2) (c .if1 .taken))
 
+slot-at-requires : tie.Need-slot-at-requires Inv-loop μ-loop
+slot-at-requires c κs = omega arith
+
 loop-again-2 : tie.Need-loop-again-2 Inv-loop μ-loop
 loop-again-2 c =
     let l = c .before .before .before .before .before .loop in (
@@ -48,7 +51,7 @@ paths-of-spec =
     (λ c. omega arith)  -- add-level
     (λ c. omega arith)  -- loop-less
     loop-again
-    (λ c κs. omega arith)  -- slot-at-requires
+    slot-at-requires
     (λ c. omega arith)  -- cast-path-of
     (λ c κs. tt)  -- path-of-requires
     (λ c. omega arith)  -- mul-paths

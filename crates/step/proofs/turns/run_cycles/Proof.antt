@@ -4,6 +4,12 @@ use borrow.Author.Needs.{needs}
 use Rattle.step.proofs.turns.run_cycles.Statement.{statement}
 use Rattle.step.proofs.turns.run_cycles.Tie as tie
 
+hold-channel-requires : tie.Need-hold-channel-requires
+hold-channel-requires c κs = search needs
+
+put-slot-requires : tie.Need-put-slot-requires
+put-slot-requires c κs = search needs
+
 returns : tie.Need-returns
 returns c =
     let five = c .before .before .before .before .before in
@@ -25,8 +31,8 @@ pub run-cycles-spec : {M : Type 1} → statement M
 run-cycles-spec =
     tie.close
     (tie.spec
-    (λ c κs. search needs)  -- hold-channel-requires
-    (λ c κs. search needs)  -- put-slot-requires
+    hold-channel-requires
+    put-slot-requires
     (λ c κs. search needs)  -- is-marked-requires
     (λ c. search needs)  -- element-write-inactive
     (λ c κs. search needs)  -- standing-after-requires

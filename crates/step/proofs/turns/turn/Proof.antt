@@ -38,11 +38,17 @@ granted-requires c κs =
     (sym (five .arbitration-time .ensures)) ∙ sym (c .before .before .before .before .is-full .ensures)
     ∙ c .before .before .before .if1 .left)
 
+stepped-on-requires : tie.Need-stepped-on-requires
+stepped-on-requires c κs = search needs
+
 slot-at-requires : tie.Need-slot-at-requires
 slot-at-requires c κs =
     let five = c .before .before .before .before .before in
     let ten = five .before .before .before .before .before in
     ten .before .pre .owned _ (five .before .phase .given .1) .small
+
+stepped-on-requires-2 : tie.Need-stepped-on-requires-2
+stepped-on-requires-2 c κs = search needs
 
 returns-2 : tie.Need-returns-2
 returns-2 c =
@@ -115,12 +121,12 @@ turn-spec =
     returns
     choose-requires
     granted-requires
-    (λ c κs. search needs)  -- stepped-on-requires
+    stepped-on-requires
     (λ c. search needs)  -- enum-known-phase
     (λ c. search needs)  -- cast-at
     slot-at-requires
     (λ c κs. search needs)  -- rest-requires
-    (λ c κs. search needs)  -- stepped-on-requires-2
+    stepped-on-requires-2
     returns-2
     run-cycles-requires
     returns-3
