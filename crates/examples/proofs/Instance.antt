@@ -12,7 +12,7 @@ use Rattle.demands.proofs.KeptLaws.{always}
 use Rattle.demands.proofs.OwnerLaws.{only-owners}
 use Rattle.demands.proofs.TransferLaws.{whole-transfer}
 use Rattle.demands.proofs.BoundLaws.{fresh-start, bound}
-use Rattle.examples.specs.Printed.{orderOf}
+use Rattle.sheethost.specs.Host.{orderOf}
 use Rattle.examples.specs.Sheet.{setup, second}
 use Rattle.examples.specs.Instance.{slave, master, begin, before, until, later, acts, entries}
 use Rattle.examples.proofs.Whole.{history}

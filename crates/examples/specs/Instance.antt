@@ -9,14 +9,14 @@ use Rattle.act.specs.declared.Ending.the-variants.{Kept, Released, Marked}
 use Rattle.act.specs.declared.Entry.{Entry}
 use Rattle.act.specs.declared.Entry.the-variants.{Grant, Cycle}
 use Rattle.demands.specs.History.{Moment, Act, posts, steps}
-use Rattle.examples.specs.Printed.{orderOf, bytesFrom}
+use Rattle.sheethost.specs.Host.{orderOf, masterStore}
 use Rattle.examples.specs.Sheet.{first, second}
 
 abbrev pub slave : List ℕ
 slave = replicate 16 0
 
 abbrev pub master : List ℕ
-master = bytesFrom 0 4096
+master = masterStore 4096
 
 abbrev pub begin : Moment
 begin = record { channel = fresh; slave = slave; master = master }
