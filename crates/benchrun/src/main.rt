@@ -8,42 +8,14 @@ use channel::Channel;
 use frame::Setup;
 use libc::STDIN_FILENO;
 use libc::STDOUT_FILENO;
-use post::Order;
 use sheet::SheetAnswer;
 use sheetlist::Event;
 use sheetlist::PostFields;
 use tally::Tally;
-ghost use Prim.Native.Nat.{_<_};
 
 struct Session {
     channel: Channel,
     tally: Tally,
-}
-
-fn no_tally() -> Tally {
-    Tally {
-        grants: 0,
-        cycles: 0,
-        bytes: 0,
-        hold: 0,
-    }
-}
-
-// Master store: byte i is i mod 251.
-fn fill_master(master: &mut [u8]) {
-    let mut i: usize = 0;
-    while i < master.len() {
-        master[i] = (i % 251) as u8;
-        i += 1;
-    }
-}
-
-fn fill_zero(store: &mut [u8]) {
-    let mut i: usize = 0;
-    while i < store.len() {
-        store[i] = 0;
-        i += 1;
-    }
 }
 
 // Up to so many steps, each by its own call.
@@ -102,21 +74,10 @@ fn take_steps(
     whole_run(setup, session, slave, master, steps)
 }
 
-fn order_of(order: PostFields) -> Order {
-    Order {
-        level: order.level,
-        direction: order.direction,
-        space: order.space,
-        address: order.address,
-        length: order.length,
-        offset: order.offset,
-    }
-}
-
 fn take_post(setup: Setup, session: Session, order: PostFields) -> Session {
     let channel = session.channel;
     let tally = session.tally;
-    let judged = post::post(setup, channel, order_of(order));
+    let judged = post::post(setup, channel, sheethost::order_of(order));
     let next = judged.channel;
     Session {
         channel: next,
@@ -148,7 +109,7 @@ fn take_events(
 ) -> Session {
     let mut session = Session {
         channel: channel::fresh_channel(),
-        tally: no_tally(),
+        tally: tally::no_tally(),
     };
     let count = sheetlist::event_count(list);
     let mut at = sheetlist::first_event(list);
@@ -173,7 +134,7 @@ fn take_rounds(
 ) -> Session {
     let mut session = Session {
         channel: channel::fresh_channel(),
-        tally: no_tally(),
+        tally: tally::no_tally(),
     };
     let mut i: u32 = 0;
     while i < times {
@@ -181,23 +142,6 @@ fn take_rounds(
         i += 1;
     }
     session
-}
-
-// The digest of a store: 1, and then for each byte times 257, plus the byte, plus 1, mod 4,294,967,291.
-fn digest(store: &[u8]) -> u64 {
-    let mut d: u64 = 1;
-    let mut i: usize = 0;
-    while i < store.len() {
-        d = (d * 257 + wide(store[i]) + 1) % 4294967291;
-        i += 1;
-    }
-    d
-}
-
-fn wide(x: u8) -> u64
-    ensures { λ r. ⌜ r < 256 ⌝ }
-{
-    x as u64
 }
 
 fn print_number(n: u64) {
@@ -264,11 +208,11 @@ fn print_tally(tally: Tally) {
 // places: the compiler then keeps it a function of its own, as it is for whoever calls the library, and does not mix it
 // into this program.
 fn prepare(setup: Setup, slave: &mut [u8], master: &mut [u8]) {
-    fill_master(master);
-    fill_zero(slave);
+    sheethost::fill_master(master);
+    sheethost::fill_slave(slave);
     let fresh = Session {
         channel: channel::fresh_channel(),
-        tally: no_tally(),
+        tally: tally::no_tally(),
     };
     whole_run(setup, fresh, slave, master, 0);
 }
@@ -287,8 +231,8 @@ fn run_over(
     let tally = session.tally;
     print_channel(channel);
     print_tally(tally);
-    print_number(digest(slave));
-    print_number(digest(master));
+    print_number(sheethost::digest(slave));
+    print_number(sheethost::digest(master));
 }
 
 fn run_list(list: &[u32], slave: &mut [u8], master: &mut [u8], times: u32, single: bool) {
@@ -329,12 +273,6 @@ fn run_sheet(sheet: &[u8], slave: &mut [u8], master: &mut [u8], times: u32, sing
     }
 }
 
-fn number_of(header: [u8; 4]) -> u32 {
-    let low = wide(header[0]) + wide(header[1]) * 256;
-    let high = wide(header[2]) + wide(header[3]) * 256;
-    (low + high * 65536) as u32
-}
-
 fn main() {
     let mut header = [0u8; 4];
     let mut input = io::large_buffer();
@@ -349,7 +287,7 @@ fn main() {
         &input[..got],
         &mut slave,
         &mut master,
-        number_of(header),
+        sheethost::four_bytes(header),
         single,
     );
 }

@@ -93,15 +93,6 @@ fn contended(setup: Setup) -> Channel {
     post::post(setup, first, order(7, 8192, 2)).channel
 }
 
-fn no_tally() -> Tally {
-    Tally {
-        grants: 0,
-        cycles: 0,
-        bytes: 0,
-        hold: 0,
-    }
-}
-
 // The tally after a run, to which it was lent.
 fn tally_of(
     setup: Setup,
@@ -123,7 +114,14 @@ fn show(setup: Setup, steps: u32) -> bool {
     let mut slave = [0u8; 8192];
     let mut master = [1u8; 4096];
     let channel = contended(setup);
-    let figures = tally_of(setup, channel, no_tally(), &mut slave, &mut master, steps);
+    let figures = tally_of(
+        setup,
+        channel,
+        tally::no_tally(),
+        &mut slave,
+        &mut master,
+        steps,
+    );
     print_pair(figures.cycles, figures.hold)
 }
 

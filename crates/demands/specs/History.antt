@@ -9,7 +9,7 @@ use Rattle.channel.specs.Channel.{Shaped}
 use Rattle.sound.specs.Sound.{isSound}
 use Rattle.post.specs.declared.Order.{Order}
 use Rattle.post.specs.Post.{postOf}
-use Rattle.tally.specs.declared.Tally.{Tally}
+pub use Rattle.tally.specs.Tally.{noTally}
 use Rattle.step.specs.Step.{stepOf, slaveAfter, masterAfter}
 
 -- the channel and the two stores
@@ -23,11 +23,7 @@ pub data Act : Type 0 where
   posts : Order → Act
   steps : Act
 
--- the tally has no part in what happens (laws `step-tally` and `run-tally`): any will do
-abbrev pub noTally : Tally
-noTally = record { grants = 0; cycles = 0; bytes = 0; hold = 0 }
-
--- the moment after an act; a refused one leaves everything
+-- the moment after an act; a refused one leaves everything. The tally has no part in what happens (laws `step-tally` and `run-tally`): any will do
 abbrev pub next : Setup → Moment → Act → Moment
 next setup m (posts p) = record { channel = postOf setup (m .channel) p .channel; slave = m .slave; master = m .master }
 next setup m steps =

@@ -25,6 +25,7 @@ use Rattle.lent.proofs as lent
 use Rattle.logline.proofs as logline
 use Rattle.sheet.proofs as sheet
 use Rattle.sheetlist.proofs as sheetlist
+use Rattle.sheethost.proofs as sheethost
 use Rattle.examples.proofs.Unique as unique
 use Rattle.examples.proofs.Unique.{Contract, alone, only-lent, only-two, lent-one, lent-two, lent-three, besides}
 
@@ -189,12 +190,14 @@ module _ {M : Type 1} (𝓤 : URA M) (H : Heap 𝓤) (A : Atoms 𝓤) (mem : Mem
   of-post : One post.post.ended post.post.clauses
   of-post = λ κs a g. alone 𝓤 _ (λ v w. refl)
 
-  of-tally : One tally.add_grant.ended tally.add_grant.clauses
+  of-tally : One tally.no_tally.ended tally.no_tally.clauses
+      × One tally.add_grant.ended tally.add_grant.clauses
       × One tally.add_cycle.ended tally.add_cycle.clauses
       × One tally.add_release.ended tally.add_release.clauses
       × One tally.add_entry.ended tally.add_entry.clauses
       × One tally.count.ended tally.count.clauses
   of-tally = (
+    λ κs a g. alone 𝓤 _ (λ v w. refl),
     λ κs a g. alone 𝓤 _ (λ v w. refl),
     λ κs a g. alone 𝓤 _ (λ v w. refl),
     λ κs a g. alone 𝓤 _ (λ v w. refl),
@@ -264,6 +267,19 @@ module _ {M : Type 1} (𝓤 : URA M) (H : Heap 𝓤) (A : Atoms 𝓤) (mem : Mem
     λ κs a g. alone 𝓤 _ (λ v w. refl),
     λ κs a g. alone 𝓤 _ (λ v w. refl),
     λ κs a g. alone 𝓤 _ (λ v w. refl),
+    λ κs a g. alone 𝓤 _ (λ v w. refl),
+    λ κs a g. alone 𝓤 _ (λ v w. refl),
+    λ κs a g. alone 𝓤 _ (λ v w. refl),
+  )
+
+  of-sheethost : One sheethost.fill_master.ended sheethost.fill_master.clauses
+      × One sheethost.fill_slave.ended sheethost.fill_slave.clauses
+      × One sheethost.digest.ended sheethost.digest.clauses
+      × One sheethost.four_bytes.ended sheethost.four_bytes.clauses
+      × One sheethost.order_of.ended sheethost.order_of.clauses
+  of-sheethost = (
+    λ κs a g. only-lent 𝓤 _ (λ ws. ws .0) (λ v w p i. (p i, tt)),
+    λ κs a g. only-lent 𝓤 _ (λ ws. ws .0) (λ v w p i. (p i, tt)),
     λ κs a g. alone 𝓤 _ (λ v w. refl),
     λ κs a g. alone 𝓤 _ (λ v w. refl),
     λ κs a g. alone 𝓤 _ (λ v w. refl),

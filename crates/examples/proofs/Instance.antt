@@ -17,7 +17,7 @@ use Rattle.demands.proofs.KeptLaws.{always}
 use Rattle.demands.proofs.CallLaws.{calls-are-acts}
 use Rattle.demands.proofs.TransferLaws.{whole-transfer}
 use Rattle.demands.proofs.DemandLaws.{fresh-start, after-set-up}
-use Rattle.examples.specs.Printed.{orderOf}
+use Rattle.sheethost.specs.Host.{orderOf}
 use Rattle.examples.specs.Sheet.{setup, second}
 use Rattle.examples.specs.Instance.{slave, master, begin, before, until, later, acts, calls, asRuns, bytesOf3, bytesOf7, entries}
 use Rattle.examples.proofs.Whole.{history}

@@ -88,13 +88,15 @@ use Rattle.sheetlist.specs.Held.{
   eventOf,
 }
 use Rattle.sheetlist.specs.declared.Event.the-variants.{Steps, Post}
-use Rattle.demands.specs.History.{noTally, after as afterActs}
+use Rattle.tally.specs.Tally.{noTally}
+use Rattle.demands.specs.History.{after as afterActs}
 use Rattle.demands.specs.Log.{logOf}
 use Rattle.demands.specs.Calls.{actsOver}
 use Rattle.demands.specs.Bytes.{asked}
 use Rattle.demands.specs.Stores.{slaves, masters, start, lastInto, brought}
 use Rattle.demands.specs.Waiting.{nobody, since, firstOver}
-use Rattle.examples.specs.Printed.{bytesFrom, begun, eventsOf, eventsPrint, sheetPrint}
+use Rattle.sheethost.specs.Host.{bytesFrom}
+use Rattle.examples.specs.Printed.{begun, eventsOf, eventsPrint, sheetPrint}
 use Rattle.examples.specs.Sheet.{input, list, setup, postFields, first, second, events, output}
 use Rattle.examples.specs.Instance.{slave, master, begin, before, until, acts, asRuns, bytesOf3, bytesOf7, entries}
 use Rattle.examples.specs.Bursts.{askedAtGrant, askedLater, figures}

@@ -11,14 +11,14 @@ use Rattle.act.specs.declared.Entry.the-variants.{Grant, Cycle}
 use Rattle.demands.specs.History.{Moment, Act, posts, steps, noTally}
 use Rattle.demands.specs.Calls.{Call, post, step, run}
 use Rattle.demands.specs.Bytes.{Byte, bytesFrom}
-use Rattle.examples.specs.Printed.{orderOf, bytesFrom as numbersFrom}
+use Rattle.sheethost.specs.Host.{orderOf, masterStore}
 use Rattle.examples.specs.Sheet.{setup, first, second}
 
 abbrev pub slave : List ℕ
 slave = replicate 16 0
 
 abbrev pub master : List ℕ
-master = numbersFrom 0 4096
+master = masterStore 4096
 
 abbrev pub begin : Moment
 begin = record { channel = fresh; slave = slave; master = master }

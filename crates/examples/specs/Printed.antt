@@ -1,15 +1,15 @@
 -- Document 01, "One sheet, whole": what the program sheetrun prints for the bytes of a sheet.
-use Prim.Native.Nat.{ℕ, zero, suc, _%_}
+use Prim.Native.Nat.{ℕ, zero, suc}
 use mathlib.Core.List.{List, [], _∷_, _++_}
-use lib.ListN.{length, replicate}
+use lib.ListN.{length}
 use Rattle.refusal.specs.Refusal.{numberOf, verdictNumber}
 use Rattle.number.specs.Number.{readAt}
 use Rattle.frame.specs.declared.Setup.{Setup}
 use Rattle.frame.specs.Find.{slaveStoreLength}
 use Rattle.channel.specs.declared.Judged.{Judged}
 use Rattle.channel.specs.Channel.{fresh}
-use Rattle.post.specs.declared.Order.{Order}
 use Rattle.post.specs.Post.{postOf}
+use Rattle.tally.specs.Tally.{noTally}
 use Rattle.step.specs.declared.StepAnswer.{StepAnswer}
 use Rattle.step.specs.declared.StepAnswer.the-variants.{Done, Refused}
 use Rattle.step.specs.Run.{World, world, stepIn, after}
@@ -17,11 +17,10 @@ use Rattle.logline.specs.Line.{entryText, postText, stopText, endText, faultTex
 use Rattle.sheet.specs.declared.Judged.{Judged as Verdict}
 use Rattle.sheet.specs.declared.Judged.the-variants.{Good, Fault}
 use Rattle.sheet.specs.Sheet.{sheet, numbersOf}
-use Rattle.sheetlist.specs.declared.PostFields.{PostFields}
 use Rattle.sheetlist.specs.declared.Event.{Event}
 use Rattle.sheetlist.specs.declared.Event.the-variants.{Steps, Post}
-use Rattle.demands.specs.History.{noTally}
 use Rattle.sheetlist.specs.Held.{setupOf, eventCount, eventOf}
+use Rattle.sheethost.specs.Host.{orderOf, masterStore, slaveStore}
 
 -- what is printed, and the channel, the tally and the stores behind it
 pub record Printed : Type 0 where
@@ -41,17 +40,6 @@ stepsPrint setup zero w = printed [] w
 stepsPrint setup (suc left) w = stepThen (stepIn setup w .answer) w (stepsPrint setup left (after setup w))
 
 -- "P: level, refusal or 0.", behind "the clock afterwards"
-abbrev pub orderOf : PostFields → Order
-orderOf p =
-    record {
-      level = p .level;
-      direction = p .direction;
-      space = p .space;
-      address = p .address;
-      length = p .length;
-      offset = p .offset;
-    }
-
 abbrev pub judgedPrint : ℕ → Judged → World → Printed
 judgedPrint level j w =
     printed (postText (j .channel .clock) level (verdictNumber (j .verdict))) (world (j .channel) (w .tally) (w .slave) (w .master))
@@ -78,14 +66,9 @@ eventsFrom list i (suc left) = eventOf list i ∷ eventsFrom list (suc i) left
 abbrev pub eventsOf : List ℕ → List Event
 eventsOf list = eventsFrom list 0 (eventCount list)
 
--- "Master store: 4,096 bytes, byte i being i mod 251": so many bytes from byte i on
-abbrev pub bytesFrom : ℕ → ℕ → List ℕ
-bytesFrom i zero = []
-bytesFrom i (suc left) = (i % 251) ∷ bytesFrom (suc i) left
-
--- the fresh channel, "slave store zero", and a tally of nothing
+-- the fresh channel, a tally of nothing, "slave store zero", and "Master store: 4,096 bytes"
 abbrev pub begun : Setup → World
-begun setup = world fresh noTally (replicate (slaveStoreLength (setup .slaves)) 0) (bytesFrom 0 4096)
+begun setup = world fresh noTally (slaveStore (slaveStoreLength (setup .slaves))) (masterStore 4096)
 
 -- the numbers of a good sheet
 abbrev pub listPrint : List ℕ → List ℕ

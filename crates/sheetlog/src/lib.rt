@@ -10,25 +10,12 @@ use streams::no_room;
 use streams::read_rest;
 use streams::read_whole;
 use streams::say;
-ghost use Prim.Native.Nat.{_<_};
 
 // What stands before the next sheet of many, or before the bytes of one.
 enum Next {
     End,
     Failed,
     Sheet(usize),
-}
-
-fn wide(x: u8) -> u64
-    ensures { λ r. ⌜ r < 256 ⌝ }
-{
-    x as u64
-}
-
-fn size_of(header: [u8; 4]) -> usize {
-    let low = wide(header[0]) + wide(header[1]) * 256;
-    let high = wide(header[2]) + wide(header[3]) * 256;
-    (low + high * 65536) as usize
 }
 
 // The length of the next sheet.
@@ -45,7 +32,7 @@ fn next_size() -> Next {
         say(b"sheetrun: standard input: ends inside the length of a sheet\n");
         return Next::Failed;
     }
-    Next::Sheet(size_of(header))
+    Next::Sheet(sheethost::four_bytes(header) as usize)
 }
 
 // The bytes of a sheet of that length, at the start of the buffer.

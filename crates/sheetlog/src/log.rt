@@ -4,14 +4,13 @@ use crate::streams::no_room;
 use crate::streams::write_first;
 use channel::Channel;
 use frame::Setup;
-use post::Order;
 use refusal::Refusal;
 use refusal::Verdict;
 use sheet::SheetAnswer;
 use sheetlist::Event;
 use sheetlist::PostFields;
 use tally::Tally;
-ghost use Prim.Native.Nat.{_+_, _<_, _≤_};
+ghost use Prim.Native.Nat.{_+_, _≤_};
 
 // The channel and the tally as the log goes on, how much of the buffer is filled, and whether a write has failed.
 struct Session {
@@ -27,15 +26,6 @@ enum Kept {
     Filled(usize),
 }
 
-fn no_tally() -> Tally {
-    Tally {
-        grants: 0,
-        cycles: 0,
-        bytes: 0,
-        hold: 0,
-    }
-}
-
 // Writes what the buffer holds where no other line may fit.
 fn flushed(out: &[u8], filled: usize) -> Kept {
     if logline::has_room(out.len(), filled) {
@@ -45,23 +35,6 @@ fn flushed(out: &[u8], filled: usize) -> Kept {
         Kept::Filled(0)
     } else {
         Kept::Failed
-    }
-}
-
-// Master store: byte i is i mod 251.
-fn fill_master(master: &mut [u8]) {
-    let mut i: usize = 0;
-    while i < master.len() {
-        master[i] = (i % 251) as u8;
-        i += 1;
-    }
-}
-
-fn fill_zero(store: &mut [u8]) {
-    let mut i: usize = 0;
-    while i < store.len() {
-        store[i] = 0;
-        i += 1;
     }
 }
 
@@ -136,23 +109,12 @@ fn log_post(setup: Setup, session: Session, out: &mut [u8], order: PostFields) -
     let Kept::Filled(at) = kept else {
         return stopped(channel, tally);
     };
-    let judged = post::post(setup, channel, order_of(order));
+    let judged = post::post(setup, channel, sheethost::order_of(order));
     let next = judged.channel;
     let verdict = judged.verdict;
     let number = refusal::verdict_number(verdict) as u32;
     let past = logline::put_post(out, at, next.clock, order.level, number);
     going(next, tally, past)
-}
-
-fn order_of(order: PostFields) -> Order {
-    Order {
-        level: order.level,
-        direction: order.direction,
-        space: order.space,
-        address: order.address,
-        length: order.length,
-        offset: order.offset,
-    }
 }
 
 // The events of a valid list, one after the other, and the last line.
@@ -163,7 +125,7 @@ fn log_events(
     master: &mut [u8],
     out: &mut [u8],
 ) -> Session {
-    let mut session = going(channel::fresh_channel(), no_tally(), 0);
+    let mut session = going(channel::fresh_channel(), tally::no_tally(), 0);
     let count = sheetlist::event_count(list);
     let mut at = sheetlist::first_event(list);
     let mut i: usize = 0;
@@ -204,23 +166,6 @@ fn finish(session: Session, out: &mut [u8]) -> Session {
     going(channel, tally, past)
 }
 
-// The digest of a store: 1, and then for each byte times 257, plus the byte, plus 1, mod 4,294,967,291.
-fn digest(store: &[u8]) -> u64 {
-    let mut d: u64 = 1;
-    let mut i: usize = 0;
-    while i < store.len() {
-        d = (d * 257 + wide(store[i]) + 1) % 4294967291;
-        i += 1;
-    }
-    d
-}
-
-fn wide(x: u8) -> u64
-    ensures { λ r. ⌜ r < 256 ⌝ }
-{
-    x as u64
-}
-
 // A space and a number, in a line; answers where they end.
 fn put_number(line: &mut [u8; 128], at: usize, n: u64) -> usize
     requires { ⌜ at + 21 ≤ 128 ⌝ }
@@ -241,8 +186,8 @@ fn put_number(line: &mut [u8; 128], at: usize, n: u64) -> usize
 fn print_digests(slave: &[u8], master: &[u8], tally: Tally) -> bool {
     let mut line = [b'D'; 128];
     let mut at: usize = 1;
-    at = put_number(&mut line, at, digest(slave));
-    at = put_number(&mut line, at, digest(master));
+    at = put_number(&mut line, at, sheethost::digest(slave));
+    at = put_number(&mut line, at, sheethost::digest(master));
     at = put_number(&mut line, at, tally.grants as u64);
     at = put_number(&mut line, at, tally.cycles as u64);
     at = put_number(&mut line, at, tally.bytes as u64);
@@ -273,7 +218,7 @@ pub(crate) fn run_sheet(
     out: &mut [u8],
     digests: bool,
 ) -> bool {
-    fill_master(master);
+    sheethost::fill_master(master);
     let mut list = [0u32; 7300];
     let answer = sheet::read_sheet(sheet, &mut list);
     match answer {
@@ -282,7 +227,7 @@ pub(crate) fn run_sheet(
                 return false;
             }
             if digests {
-                return print_digests(b"", master, no_tally());
+                return print_digests(b"", master, tally::no_tally());
             }
             true
         }
@@ -329,7 +274,7 @@ fn run_over(
     out: &mut [u8],
     digests: bool,
 ) -> bool {
-    fill_zero(slave);
+    sheethost::fill_slave(slave);
     let session = log_events(setup, list, slave, master, out);
     if session.failed {
         return false;

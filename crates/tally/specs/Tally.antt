@@ -16,6 +16,10 @@ capped a b = min (a + b) 4294967295
 abbrev pub larger : ℕ → ℕ → ℕ
 larger a b = max a b
 
+-- a tally of nothing
+abbrev pub noTally : Tally
+noTally = record { grants = 0; cycles = 0; bytes = 0; hold = 0 }
+
 -- what a release adds to the longest hold: without an asked time nothing, which 0 is, as no hold is below it
 abbrev pub holdFigure : Hold → ℕ
 holdFigure Unasked = 0

@@ -4,13 +4,25 @@ use act::Ending;
 use act::Entry;
 use act::Hold;
 ghost use mathlib.Core.Path.{_≡_};
-ghost use Rattle.tally.specs.Tally.{capped, larger, holdFigure, endingFigure, addGrant, addCycle, addRelease, addEntry};
+ghost use Rattle.tally.specs.Tally.{noTally, capped, larger, holdFigure, endingFigure, addGrant, addCycle, addRelease, addEntry};
 
 pub struct Tally {
     pub grants: u32,
     pub cycles: u32,
     pub bytes: u32,
     pub hold: u32,
+}
+
+// A tally of nothing.
+pub fn no_tally() -> Tally
+    ensures { λ r. ⌜ r ≡ noTally ⌝ }
+{
+    Tally {
+        grants: 0,
+        cycles: 0,
+        bytes: 0,
+        hold: 0,
+    }
 }
 
 // A sum that stops at 4,294,967,295.

@@ -1,18 +1,20 @@
-use Prim.Native.Nat.{_-_}
-use lib.ListN.{length, length-set}
+use Prim.Native.Nat.{_-_, _≤_}
+use lib.ListN.{length, length-set, take}
 use mathlib.Core.Path.{_≡_, refl}
 use native.Mathlib.Omega.{arith}
-use Rattle.benchrun.proofs.fill_master.Statement.{statement}
-use Rattle.benchrun.proofs.fill_master.Tie as tie
+use Rattle.sheethost.specs.Host.{masterStore}
+use Rattle.sheethost.proofs.StoreLaws.{master-more, all-filled}
+use Rattle.sheethost.proofs.fill_master.Statement.{statement}
+use Rattle.sheethost.proofs.fill_master.Tie as tie
 
 abbrev Inv-loop : tie.InvT-loop
-Inv-loop master₀ i₀ master i = length master ≡ length master₀
+Inv-loop master₀ i₀ master i = (i ≤ length master₀) × (length master ≡ length master₀) × (take i master ≡ masterStore i)
 
 abbrev μ-loop : tie.MeasureT-loop
 μ-loop master₀ i₀ master i = length master₀ - i
 
 loop-holds : tie.Need-loop-holds Inv-loop μ-loop
-loop-holds c = refl
+loop-holds c = (omega arith, refl, refl)
 
 cast-master : tie.Need-cast-master Inv-loop μ-loop
 cast-master c = omega arith
@@ -27,13 +29,17 @@ loop-less : tie.Need-loop-less Inv-loop μ-loop
 loop-less c = omega arith
 
 loop-again : tie.Need-loop-again Inv-loop μ-loop
-loop-again c = simp length-set (c .before .loop .inv)
+loop-again c =
+    let l = c .before .loop in
+    (omega arith, simp length-set (l .inv .1), master-more (l .master) (l .i) (omega arith) (l .inv .2))
 
 same-length : tie.Need-same-length Inv-loop μ-loop
-same-length c = c .before .loop .inv
+same-length c = c .before .loop .inv .1
 
 returns : tie.Need-returns Inv-loop μ-loop
-returns c = tt
+returns c =
+    let l = c .before .loop in
+    all-filled masterStore _ _ _ (l .inv .2) (l .inv .1) (l .inv .0) (omega arith)
 
 pub fill-master-spec : {M : Type 1} → statement M
 fill-master-spec =

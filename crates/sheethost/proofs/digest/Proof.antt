@@ -1,17 +1,20 @@
 use Prim.Native.Nat.{_-_, _<_}
-use lib.ListN.{length}
+use lib.ListN.{length, drop}
+use mathlib.Core.Path.{_≡_, refl, sym, _∙_}
 use native.Mathlib.Omega.{arith}
-use Rattle.benchrun.proofs.digest.Statement.{statement}
-use Rattle.benchrun.proofs.digest.Tie as tie
+use Rattle.sheethost.specs.Host.{digestFrom, digestOf}
+use Rattle.sheethost.proofs.StoreLaws.{digest-more, digest-whole}
+use Rattle.sheethost.proofs.digest.Statement.{statement}
+use Rattle.sheethost.proofs.digest.Tie as tie
 
 abbrev Inv-loop : tie.InvT-loop
-Inv-loop store d₀ i₀ d i = d < 4294967291
+Inv-loop store d₀ i₀ d i = (d < 4294967291) × (digestFrom d (drop i store) ≡ digestFrom 1 store)
 
 abbrev μ-loop : tie.MeasureT-loop
 μ-loop store d₀ i₀ d i = length store - i
 
 loop-holds : tie.Need-loop-holds Inv-loop μ-loop
-loop-holds c = omega arith
+loop-holds c = (omega arith, refl)
 
 mul-d : tie.Need-mul-d Inv-loop μ-loop
 mul-d c = omega arith
@@ -35,10 +38,15 @@ loop-less : tie.Need-loop-less Inv-loop μ-loop
 loop-less c = omega arith
 
 loop-again : tie.Need-loop-again Inv-loop μ-loop
-loop-again c = omega arith
+loop-again c =
+    let l = c .before .before .before .loop in
+    (omega arith, digest-more _ (l .i) (l .d) (c .wide .result) (omega arith) (c .wide .ensures .0) ∙ l .inv .1)
 
 returns : tie.Need-returns Inv-loop μ-loop
-returns c = tt
+unfolding digestOf
+returns c =
+    let l = c .before .loop in
+    sym (digest-whole _ (l .i) (l .d) (omega arith)) ∙ l .inv .1
 
 pub digest-spec : {M : Type 1} → statement M
 digest-spec =

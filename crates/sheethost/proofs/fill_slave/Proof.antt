@@ -1,0 +1,53 @@
+use Prim.Native.Nat.{_-_, _≤_}
+use lib.ListN.{length, length-set, take}
+use mathlib.Core.Path.{_≡_, refl}
+use native.Mathlib.Omega.{arith}
+use Rattle.sheethost.specs.Host.{slaveStore}
+use Rattle.sheethost.proofs.StoreLaws.{slave-more, all-filled}
+use Rattle.sheethost.proofs.fill_slave.Statement.{statement}
+use Rattle.sheethost.proofs.fill_slave.Tie as tie
+
+abbrev Inv-loop : tie.InvT-loop
+Inv-loop slave₀ i₀ slave i = (i ≤ length slave₀) × (length slave ≡ length slave₀) × (take i slave ≡ slaveStore i)
+
+abbrev μ-loop : tie.MeasureT-loop
+μ-loop slave₀ i₀ slave i = length slave₀ - i
+
+loop-holds : tie.Need-loop-holds Inv-loop μ-loop
+loop-holds c = (omega arith, refl, refl)
+
+slice-write-slave : tie.Need-slice-write-slave Inv-loop μ-loop
+slice-write-slave c = omega arith
+
+add-i : tie.Need-add-i Inv-loop μ-loop
+add-i c = omega arith
+
+loop-less : tie.Need-loop-less Inv-loop μ-loop
+loop-less c = omega arith
+
+loop-again : tie.Need-loop-again Inv-loop μ-loop
+loop-again c =
+    let l = c .before .loop in
+    (omega arith, simp length-set (l .inv .1), slave-more (l .slave) (l .i) (omega arith) (l .inv .2))
+
+same-length : tie.Need-same-length Inv-loop μ-loop
+same-length c = c .before .loop .inv .1
+
+returns : tie.Need-returns Inv-loop μ-loop
+returns c =
+    let l = c .before .loop in
+    all-filled slaveStore _ _ _ (l .inv .2) (l .inv .1) (l .inv .0) (omega arith)
+
+pub fill-slave-spec : {M : Type 1} → statement M
+fill-slave-spec =
+    tie.close
+    (tie.spec
+    Inv-loop
+    μ-loop
+    loop-holds
+    slice-write-slave
+    add-i
+    loop-less
+    loop-again
+    same-length
+    returns)
