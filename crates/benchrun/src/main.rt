@@ -5,12 +5,12 @@
 use basics::PLACES;
 use channel::Asked;
 use channel::Channel;
+use frame::Order;
 use frame::Setup;
 use libc::STDIN_FILENO;
 use libc::STDOUT_FILENO;
 use sheet::SheetAnswer;
 use sheetlist::Event;
-use sheetlist::PostFields;
 use tally::Tally;
 
 struct Session {
@@ -74,10 +74,10 @@ fn take_steps(
     whole_run(setup, session, slave, master, steps)
 }
 
-fn take_post(setup: Setup, session: Session, order: PostFields) -> Session {
+fn take_post(setup: Setup, session: Session, order: Order) -> Session {
     let channel = session.channel;
     let tally = session.tally;
-    let judged = post::post(setup, channel, sheethost::order_of(order));
+    let judged = post::post(setup, channel, order);
     let next = judged.channel;
     Session {
         channel: next,

@@ -24,7 +24,7 @@ use Rattle.sound.specs.Sound.{isInTime}
 use Rattle.sound.proofs.SoundFacts.{Sound, InTime, sound-is}
 use Rattle.sound.proofs.RuleLaws.{rule-same}
 use Rattle.refusal.specs.Refusal.{isAccepted}
-use Rattle.post.specs.declared.Order.{Order}
+use Rattle.frame.specs.declared.Order.{Order}
 use Rattle.post.specs.Post.{requestIn, postVerdict, posted, postOf}
 use Rattle.act.specs.declared.Ending.{Ending}
 use Rattle.act.specs.declared.Ending.the-variants.{Kept, Released, Marked}

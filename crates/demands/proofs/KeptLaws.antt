@@ -14,7 +14,7 @@ use Rattle.channel.specs.Channel.{withRequest, Shaped}
 use Rattle.channel.proofs.RequestLaws.{with-shaped, rule-shaped}
 use Rattle.sound.specs.Sound.{isSound}
 use Rattle.sound.proofs.SoundFacts.{sound-is, sound-by, accepted-is}
-use Rattle.post.specs.declared.Order.{Order}
+use Rattle.frame.specs.declared.Order.{Order}
 use Rattle.post.specs.Post.{requestIn, postVerdict, posted, postOf}
 use Rattle.post.proofs.PostLaws.{post-sound}
 use Rattle.step.specs.declared.Plan.the-variants as plan

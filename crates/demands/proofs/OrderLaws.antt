@@ -18,7 +18,7 @@ use Rattle.channel.specs.Channel.{hasRequest, requestOf, withRequest, Shaped}
 use Rattle.channel.proofs.RequestLaws.{request-same, request-other}
 use Rattle.sound.proofs.SoundFacts.{Sound, sound-is, accepted-is}
 use Rattle.frame.proofs.FrameLaws.{level-facts-of}
-use Rattle.post.specs.declared.Order.{Order}
+use Rattle.frame.specs.declared.Order.{Order}
 use Rattle.post.specs.Post.{requestIn, postVerdict, posted, postOf}
 use Rattle.post.proofs.PostLaws.{Allowed, allowed}
 use Rattle.act.specs.declared.Entry.{Entry}

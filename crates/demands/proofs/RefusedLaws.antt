@@ -12,7 +12,7 @@ use Rattle.refusal.specs.Refusal.{isAccepted, refusalBy}
 use Rattle.refusal.specs.declared.Verdict.the-variants.{Accepted, Refused as NotReady}
 use Rattle.frame.specs.declared.Setup.{Setup}
 use Rattle.channel.specs.declared.Channel.{Channel}
-use Rattle.post.specs.declared.Order.{Order}
+use Rattle.frame.specs.declared.Order.{Order}
 use Rattle.post.specs.Post.{postVerdict}
 use Rattle.post.proofs.PostLaws.{refused-same}
 use Rattle.tally.specs.declared.Tally.{Tally}

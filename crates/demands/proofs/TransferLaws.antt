@@ -19,7 +19,7 @@ use Rattle.channel.specs.Channel.{hasRequest, requestOf, withRequest, Shaped}
 use Rattle.channel.specs.Line.{cleared, timed, lineRule}
 use Rattle.channel.proofs.RequestLaws.{request-other}
 use Rattle.sound.proofs.SoundFacts.{Sound, sound-is, accepted-is}
-use Rattle.post.specs.declared.Order.{Order}
+use Rattle.frame.specs.declared.Order.{Order}
 use Rattle.post.specs.Post.{requestIn, postVerdict, posted, postOf}
 use Rattle.post.proofs.PostLaws.{allowed}
 use Rattle.act.specs.declared.Entry.{Entry}

@@ -9,7 +9,7 @@ use lib.Dec.{eqb}
 use Rattle.frame.specs.declared.Setup.{Setup}
 use Rattle.frame.specs.Find.{slaveStoreLength}
 use Rattle.channel.specs.declared.Channel.{Channel}
-use Rattle.post.specs.declared.Order.{Order}
+use Rattle.frame.specs.declared.Order.{Order}
 use Rattle.tally.specs.declared.Tally.{Tally}
 use Rattle.step.specs.Step.{stepOf, slaveAfter, masterAfter}
 use Rattle.step.specs.Run.{World, Out, world, runOf}

@@ -7,7 +7,7 @@ use Rattle.frame.specs.declared.Setup.{Setup}
 use Rattle.channel.specs.declared.Channel.{Channel}
 use Rattle.channel.specs.Channel.{Shaped}
 use Rattle.sound.specs.Sound.{isSound}
-use Rattle.post.specs.declared.Order.{Order}
+use Rattle.frame.specs.declared.Order.{Order}
 use Rattle.post.specs.Post.{postOf}
 pub use Rattle.tally.specs.Tally.{noTally}
 use Rattle.step.specs.Step.{stepOf, slaveAfter, masterAfter}

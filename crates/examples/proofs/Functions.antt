@@ -276,11 +276,9 @@ module _ {M : Type 1} (𝓤 : URA M) (H : Heap 𝓤) (A : Atoms 𝓤) (mem : Mem
       × One sheethost.fill_slave.ended sheethost.fill_slave.clauses
       × One sheethost.digest.ended sheethost.digest.clauses
       × One sheethost.four_bytes.ended sheethost.four_bytes.clauses
-      × One sheethost.order_of.ended sheethost.order_of.clauses
   of-sheethost = (
     λ κs a g. only-lent 𝓤 _ (λ ws. ws .0) (λ v w p i. (p i, tt)),
     λ κs a g. only-lent 𝓤 _ (λ ws. ws .0) (λ v w p i. (p i, tt)),
-    λ κs a g. alone 𝓤 _ (λ v w. refl),
     λ κs a g. alone 𝓤 _ (λ v w. refl),
     λ κs a g. alone 𝓤 _ (λ v w. refl),
   )

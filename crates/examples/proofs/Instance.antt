@@ -17,7 +17,6 @@ use Rattle.demands.proofs.KeptLaws.{always}
 use Rattle.demands.proofs.CallLaws.{calls-are-acts}
 use Rattle.demands.proofs.TransferLaws.{whole-transfer}
 use Rattle.demands.proofs.DemandLaws.{fresh-start, after-set-up}
-use Rattle.sheethost.specs.Host.{orderOf}
 use Rattle.examples.specs.Sheet.{setup, second}
 use Rattle.examples.specs.Instance.{slave, master, begin, before, until, later, acts, calls, asRuns, bytesOf3, bytesOf7, entries}
 use Rattle.examples.proofs.Whole.{history}
@@ -66,7 +65,7 @@ in-time = met .hold until later refl 3 300 (history .first-moment)
 
 -- after its grant level 3 has the cycles of its transfer one after the other, though level 7 comes to wait inside it
 transfer : runsOn setup 3 (requestOf (after setup begin before .channel) 3)
-    (logOf setup (after setup begin before) (steps ∷ posts (orderOf second) ∷ later)) ≡ true
+    (logOf setup (after setup begin before) (steps ∷ posts second ∷ later)) ≡ true
 transfer =
-    whole-transfer setup (after setup begin before) (steps ∷ posts (orderOf second) ∷ later) 3
+    whole-transfer setup (after setup begin before) (steps ∷ posts second ∷ later) 3
     (always setup begin before (fresh-start setup slave master) .shaped) (history .owner) (history .request)

@@ -27,7 +27,7 @@ use Rattle.channel.specs.Channel.{Shaped, setUp, hasRequest, requestOf}
 use Rattle.channel.specs.Line.{line, winner}
 use Rattle.channel.specs.Slave.{slaveOf}
 use Rattle.sound.specs.Request.{requestVerdict}
-use Rattle.post.specs.declared.Order.{Order}
+use Rattle.frame.specs.declared.Order.{Order}
 use Rattle.post.specs.Post.{requestIn, postVerdict, postOf}
 use Rattle.act.specs.declared.Entry.{Entry}
 use Rattle.act.specs.Cycle.{pathOf, cycleOf}

@@ -97,7 +97,7 @@ use Rattle.demands.specs.Stores.{slaves, masters, start, lastInto, brought}
 use Rattle.demands.specs.Waiting.{nobody, since, firstOver}
 use Rattle.sheethost.specs.Host.{bytesFrom}
 use Rattle.examples.specs.Printed.{begun, eventsOf, eventsPrint, sheetPrint}
-use Rattle.examples.specs.Sheet.{input, list, setup, postFields, first, second, events, output}
+use Rattle.examples.specs.Sheet.{input, list, setup, orderBy, first, second, events, output}
 use Rattle.examples.specs.Instance.{slave, master, begin, before, until, acts, asRuns, bytesOf3, bytesOf7, entries}
 use Rattle.examples.specs.Bursts.{askedAtGrant, askedLater, figures}
 
@@ -138,7 +138,7 @@ record Lines : Type 0 where
   not-torn : eventsPrint setup (Post first ∷ Steps 1 ∷ Post second ∷ Steps 2 ∷ []) (begun setup)
       ≡ bytes ("P 0 3 0" ∷ "G 100 3" ∷ "P 100 7 0" ∷ "C 300 3 4097 1 1 1 1 0" ∷ "C 500 3 4098 2 1 2 0 2" ∷ "E 500 3" ∷ [])
   -- "Post at address 4,294,967,295, length 4,096: refusal 4, nothing wraps."
-  wraps-not : eventsPrint setup (Post (postFields 3 1 1 4294967295 4096 0) ∷ []) (begun setup) ≡ bytes ("P 0 3 4" ∷ "E 0 0" ∷ [])
+  wraps-not : eventsPrint setup (Post (orderBy 3 1 1 4294967295 4096 0) ∷ []) (begun setup) ≡ bytes ("P 0 3 4" ∷ "E 0 0" ∷ [])
 
 -- "A lingering burst asked at its grant ..: 39 transfers at 200 ns, 26 at 300 ns, hold 7,800 both times. W 4, P 1, 1,950 ns: one transfer, hold 7,800.":
 -- one cycle earlier the channel is still granted. The last is ours: asked two cycles after its grant, the 7,800 ns count from there.

@@ -9,7 +9,7 @@ use Rattle.tally.specs.declared.Tally.{Tally}
 use Rattle.sheetlist.specs.declared.Event.{Event}
 use Rattle.sheetlist.specs.declared.Event.the-variants.{Steps, Post}
 use Rattle.examples.specs.Printed.{behind, begun}
-use Rattle.examples.specs.Sheet.{levelRow, slaveRow, postFields}
+use Rattle.examples.specs.Sheet.{levelRow, slaveRow, orderBy}
 use Rattle.step.specs.Run.{World}
 
 -- level 3 bursts and lingers; the slave has this port and this cycle time
@@ -23,11 +23,11 @@ burstSetup port time =
 
 -- level 3 posts the whole slave
 abbrev pub burst : Event
-burst = Post (postFields 3 1 1 0 4096 0)
+burst = Post (orderBy 3 1 1 0 4096 0)
 
 -- level 15 asks
 abbrev pub asks : Event
-asks = Post (postFields 15 1 1 0 4 0)
+asks = Post (orderBy 15 1 1 0 4 0)
 
 -- both posts, the grant, and then so many cycles: the world then
 abbrev pub askedAtGrant : ℕ → ℕ → ℕ → World

@@ -11,7 +11,7 @@ use Rattle.act.specs.declared.Entry.the-variants.{Grant, Cycle}
 use Rattle.demands.specs.History.{Moment, Act, posts, steps, noTally}
 use Rattle.demands.specs.Calls.{Call, post, step, run}
 use Rattle.demands.specs.Bytes.{Byte, bytesFrom}
-use Rattle.sheethost.specs.Host.{orderOf, masterStore}
+use Rattle.sheethost.specs.Host.{masterStore}
 use Rattle.examples.specs.Sheet.{setup, first, second}
 
 abbrev pub slave : List ℕ
@@ -25,10 +25,10 @@ begin = record { channel = fresh; slave = slave; master = master }
 
 -- the sheet's events: a post, two steps, a post that comes while level 3 owns the channel inside a transfer, and seven steps
 abbrev pub before : List Act
-before = posts (orderOf first) ∷ steps ∷ []
+before = posts first ∷ steps ∷ []
 
 abbrev pub until : List Act
-until = posts (orderOf first) ∷ steps ∷ steps ∷ posts (orderOf second) ∷ []
+until = posts first ∷ steps ∷ steps ∷ posts second ∷ []
 
 abbrev pub later : List Act
 later = steps ∷ steps ∷ steps ∷ steps ∷ steps ∷ steps ∷ steps ∷ []
@@ -39,11 +39,11 @@ acts = until ++ later
 -- the same as calls: step by step, and by runs
 abbrev pub calls : List (Call setup)
 calls =
-    post (orderOf first) ∷ step noTally ∷ step noTally ∷ post (orderOf second)
+    post first ∷ step noTally ∷ step noTally ∷ post second
     ∷ step noTally ∷ step noTally ∷ step noTally ∷ step noTally ∷ step noTally ∷ step noTally ∷ step noTally ∷ []
 
 abbrev pub asRuns : List (Call setup)
-asRuns = post (orderOf first) ∷ run noTally 2 ∷ post (orderOf second) ∷ run noTally 7 ∷ []
+asRuns = post first ∷ run noTally 2 ∷ post second ∷ run noTally 7 ∷ []
 
 -- the seven bytes that level 3 asks for, and the two of level 7
 abbrev pub bytesOf3 : List Byte

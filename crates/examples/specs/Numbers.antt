@@ -22,7 +22,7 @@ use Rattle.channel.specs.Channel.{hasRequest, requestOf}
 use Rattle.channel.specs.Slave.{slaveOf}
 use Rattle.sound.specs.Request.{isInRange, isInsideSlave, isOutsideMaster}
 use Rattle.sound.specs.Sound.{isSound}
-use Rattle.post.specs.declared.Order.{Order}
+use Rattle.frame.specs.declared.Order.{Order}
 use Rattle.post.specs.Post.{requestIn}
 use Rattle.act.specs.Turn.{arbitrationTime}
 use Rattle.logline.specs.Text.{hasRoom as lineRoom}

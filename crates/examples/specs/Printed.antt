@@ -20,7 +20,7 @@ use Rattle.sheet.specs.Sheet.{sheet, numbersOf}
 use Rattle.sheetlist.specs.declared.Event.{Event}
 use Rattle.sheetlist.specs.declared.Event.the-variants.{Steps, Post}
 use Rattle.sheetlist.specs.Held.{setupOf, eventCount, eventOf}
-use Rattle.sheethost.specs.Host.{orderOf, masterStore, slaveStore}
+use Rattle.sheethost.specs.Host.{masterStore, slaveStore}
 
 -- what is printed, and the channel, the tally and the stores behind it
 pub record Printed : Type 0 where
@@ -45,7 +45,7 @@ judgedPrint level j w =
     printed (postText (j .channel .clock) level (verdictNumber (j .verdict))) (world (j .channel) (w .tally) (w .slave) (w .master))
 
 abbrev pub eventPrint : Setup → Event → World → Printed
-eventPrint setup (Post p) w = judgedPrint (p .level) (postOf setup (w .channel) (orderOf p)) w
+eventPrint setup (Post p) w = judgedPrint (p .level) (postOf setup (w .channel) p) w
 eventPrint setup (Steps steps) w = stepsPrint setup steps w
 
 -- the events in their order; then "E: bytes moved."

@@ -8,7 +8,7 @@ use Rattle.frame.specs.declared.LevelRow.{LevelRow}
 use Rattle.frame.specs.declared.SlaveRow.{SlaveRow}
 use Rattle.frame.specs.declared.Setup.{Setup}
 use Rattle.frame.specs.Frame.{noLevel, noSlave}
-use Rattle.sheetlist.specs.declared.PostFields.{PostFields}
+use Rattle.frame.specs.declared.Order.{Order}
 use Rattle.sheetlist.specs.declared.Event.{Event}
 use Rattle.sheetlist.specs.declared.Event.the-variants.{Steps, Post}
 
@@ -45,14 +45,14 @@ setup =
       master = 4096;
     }
 
-abbrev pub postFields : ℕ → ℕ → ℕ → ℕ → ℕ → ℕ → PostFields
-postFields l d s a n o = record { level = l; direction = d; space = s; address = a; length = n; offset = o }
+abbrev pub orderBy : ℕ → ℕ → ℕ → ℕ → ℕ → ℕ → Order
+orderBy l d s a n o = record { level = l; direction = d; space = s; address = a; length = n; offset = o }
 
-abbrev pub first : PostFields
-first = postFields 3 1 1 4097 7 0
+abbrev pub first : Order
+first = orderBy 3 1 1 4097 7 0
 
-abbrev pub second : PostFields
-second = postFields 7 0 1 4096 2 16
+abbrev pub second : Order
+second = orderBy 7 0 1 4096 2 16
 
 -- its events
 abbrev pub events : List Event

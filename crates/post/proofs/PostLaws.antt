@@ -29,7 +29,7 @@ use Rattle.sound.specs.Sound.{isInTime, isBlank, isSound}
 use Rattle.sound.proofs.SoundFacts.{InTime, Settled, Sound, sound-is}
 use Rattle.sound.proofs.RequestFacts.{Fits, fits-is, transfer-fits}
 use Rattle.sound.proofs.RuleLaws.{rule-sound}
-use Rattle.post.specs.declared.Order.{Order}
+use Rattle.frame.specs.declared.Order.{Order}
 use Rattle.post.specs.Post.{requestIn, postVerdict, posted, postOf}
 
 -- what an accepted post has shown

@@ -13,7 +13,7 @@ use Rattle.channel.specs.Channel.{hasRequest, withRequest}
 use Rattle.channel.specs.Line.{lineRule}
 use Rattle.sound.specs.Request.{requestVerdict}
 use Rattle.sound.specs.Sound.{isSound}
-use Rattle.post.specs.declared.Order.{Order}
+use Rattle.frame.specs.declared.Order.{Order}
 
 -- "A request is level, direction (0 read: slave to master; 1 write), space, address, length 1 to 4,096 and an offset in the master store."
 abbrev pub requestIn : Order → Request

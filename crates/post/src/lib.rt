@@ -3,22 +3,13 @@
 use channel::Channel;
 use channel::Judged;
 use channel::Request;
+use frame::Order;
 use frame::Setup;
 use frame::Store;
 use refusal::Refusal;
 use refusal::Verdict;
 ghost use mathlib.Core.Path.{_≡_};
 ghost use Rattle.post.specs.Post.{requestIn, orderVerdict, postVerdict, posted, postOf};
-
-// The six numbers of a post, as the sheet has them.
-pub struct Order {
-    pub level: u32,
-    pub direction: u32,
-    pub space: u32,
-    pub address: u32,
-    pub length: u32,
-    pub offset: u32,
-}
 
 fn request_in(order: Order) -> Request
     ensures { λ r. ⌜ r ≡ requestIn order ⌝ }

@@ -1,10 +1,8 @@
 -- What a program that runs a sheet has beside the calls: the stores at the start (document 01, "One sheet, whole"), a store's digest (docs/DECISIONS.md, 29),
--- a post of the sheet as the call takes it, and a number in four bytes.
+-- and a number in four bytes.
 use Prim.Native.Nat.{ℕ, zero, suc, _+_, _*_, _%_}
 use mathlib.Core.List.{List, [], _∷_}
 use lib.ListN.{getD, replicate}
-use Rattle.post.specs.declared.Order.{Order}
-use Rattle.sheetlist.specs.declared.PostFields.{PostFields}
 
 -- "Master store: 4,096 bytes, byte i being i mod 251": so many bytes from byte i on
 abbrev pub bytesFrom : ℕ → ℕ → List ℕ
@@ -30,15 +28,3 @@ digestOf store = digestFrom 1 store
 -- "in four bytes, lowest first": the length of a sheet among many
 abbrev pub fourBytes : List ℕ → ℕ
 fourBytes bytes = getD bytes 0 0 + getD bytes 1 0 * 256 + (getD bytes 2 0 + getD bytes 3 0 * 256) * 65536
-
--- "1, level, direction, space, address, length, offset", as the post takes them
-abbrev pub orderOf : PostFields → Order
-orderOf p =
-    record {
-      level = p .level;
-      direction = p .direction;
-      space = p .space;
-      address = p .address;
-      length = p .length;
-      offset = p .offset;
-    }

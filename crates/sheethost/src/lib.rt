@@ -1,11 +1,9 @@
-// What a program that runs a sheet needs beside our calls: the two stores at the start, their digests, a post of the sheet as
-// the call takes it, and a number in four bytes.
-use post::Order;
-use sheetlist::PostFields;
+// What a program that runs a sheet needs beside our calls: the two stores at the start, their digests, and a number in four
+// bytes.
 ghost use Prim.Native.Nat.{_<_};
 ghost use mathlib.Core.Path.{_≡_};
 ghost use lib.ListN.{length};
-ghost use Rattle.sheethost.specs.Host.{masterStore, slaveStore, digestOf, fourBytes, orderOf};
+ghost use Rattle.sheethost.specs.Host.{masterStore, slaveStore, digestOf, fourBytes};
 
 // A byte as a number that has room for more.
 fn wide(byte: u8) -> u64
@@ -57,18 +55,4 @@ pub fn four_bytes(bytes: [u8; 4]) -> u32
     let low = wide(bytes[0]) + wide(bytes[1]) * 256;
     let high = wide(bytes[2]) + wide(bytes[3]) * 256;
     (low + high * 65536) as u32
-}
-
-// A post of the sheet, as `post::post` takes it.
-pub fn order_of(fields: PostFields) -> Order
-    ensures { λ r. ⌜ r ≡ orderOf fields ⌝ }
-{
-    Order {
-        level: fields.level,
-        direction: fields.direction,
-        space: fields.space,
-        address: fields.address,
-        length: fields.length,
-        offset: fields.offset,
-    }
 }

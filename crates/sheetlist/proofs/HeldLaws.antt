@@ -14,7 +14,7 @@ use Rattle.frame.specs.declared.SlaveRow.{SlaveRow}
 use Rattle.frame.specs.declared.LevelRows.{LevelRows}
 use Rattle.frame.specs.declared.SlaveRows.{SlaveRows}
 use Rattle.sheet.specs.Sheet.{listAt, numbers, levelOf, slaveOf, withLevel, withSlave, levels, slaves}
-use Rattle.sheetlist.specs.declared.PostFields.{PostFields}
+use Rattle.frame.specs.declared.Order.{Order}
 use Rattle.sheetlist.specs.declared.Event.the-variants.{Steps}
 use Rattle.sheetlist.specs.Held.{table, postAt, eventAt}
 
@@ -71,7 +71,7 @@ module _ (list : List ℕ) (at : ℕ) {a b : ℕ} (first : a ≡ getD list at 0)
 module _ (list : List ℕ) (at : ℕ) {a b c d e f : ℕ} where
   pub post-is : a ≡ getD list (at + 1) 0 → b ≡ getD list (at + 2) 0 → c ≡ getD list (at + 3) 0
       → d ≡ getD list (at + 4) 0 → e ≡ getD list (at + 5) 0 → f ≡ getD list (at + 6) 0
-      → _≡_ {A = PostFields} (record { level = a; direction = b; space = c; address = d; length = e; offset = f }) (postAt list at)
+      → _≡_ {A = Order} (record { level = a; direction = b; space = c; address = d; length = e; offset = f }) (postAt list at)
   post-is p q r s t u i = record { level = p i; direction = q i; space = r i; address = s i; length = t i; offset = u i }
 
 -- a row more in a table

@@ -10,7 +10,7 @@ use Rattle.frame.specs.declared.SlaveRows.{SlaveRows}
 use Rattle.frame.specs.declared.Setup.{Setup}
 use Rattle.frame.specs.Frame.{present}
 use Rattle.sheet.specs.Sheet.{listAt, numbers, Rows, levels, slaves}
-use Rattle.sheetlist.specs.declared.PostFields.{PostFields}
+use Rattle.frame.specs.declared.Order.{Order}
 use Rattle.sheetlist.specs.declared.Event.{Event}
 use Rattle.sheetlist.specs.declared.Event.the-variants.{Steps, Post}
 
@@ -48,7 +48,7 @@ unfoldable pub setupOf : List ℕ → ℕ → Setup
 setupOf list master = record { levels = levelsOf list; slaves = slavesOf list; master = master }
 
 -- "An event is 0 and a step count .., or 1, level, direction, space, address, length, offset": the event at an index
-abbrev pub postAt : List ℕ → ℕ → PostFields
+abbrev pub postAt : List ℕ → ℕ → Order
 postAt list at =
     record {
       level = getD list (at + 1) 0;

@@ -4,6 +4,7 @@ use basics::ROWS_MOST;
 use basics::ROWS_MOST_U32;
 use frame::LevelRow;
 use frame::LevelRows;
+use frame::Order;
 use frame::Setup;
 use frame::SlaveRow;
 use frame::SlaveRows;
@@ -14,20 +15,10 @@ ghost use Rattle.sheet.specs.Sheet.{listAt, numbers, levelOf, slaveOf};
 ghost use Rattle.sheetlist.specs.Held.{slavesFrom, eventsFrom, levelsOf, slavesOf, setupOf};
 ghost use Rattle.sheetlist.specs.Held.{eventCount, firstEvent, postAt, eventAt, nextEvent, eventOf};
 
-// The numbers of a post, as the sheet has them: the post judges them.
-pub struct PostFields {
-    pub level: u32,
-    pub direction: u32,
-    pub space: u32,
-    pub address: u32,
-    pub length: u32,
-    pub offset: u32,
-}
-
 // So many steps, or a post.
 pub enum Event {
     Steps(u32),
-    Post(PostFields),
+    Post(Order),
 }
 
 // The number at an index; 0 behind the end.
@@ -171,11 +162,11 @@ pub fn event_at(list: &[u32], at: usize) -> Event
 }
 
 // The six numbers of a post that begins at an index.
-fn post_at(list: &[u32], at: usize) -> PostFields
+fn post_at(list: &[u32], at: usize) -> Order
     requires { do ⌜ at < (← ⟦list.len()⟧) ⌝ }
     ensures { λ r. ⌜ r ≡ postAt (now (list .entry)) at ⌝ }
 {
-    PostFields {
+    Order {
         level: number_in(list, at + 1),
         direction: number_in(list, at + 2),
         space: number_in(list, at + 3),

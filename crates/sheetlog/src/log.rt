@@ -3,12 +3,12 @@
 use crate::streams::no_room;
 use crate::streams::write_first;
 use channel::Channel;
+use frame::Order;
 use frame::Setup;
 use refusal::Refusal;
 use refusal::Verdict;
 use sheet::SheetAnswer;
 use sheetlist::Event;
-use sheetlist::PostFields;
 use tally::Tally;
 ghost use Prim.Native.Nat.{_+_, _≤_};
 
@@ -102,14 +102,14 @@ fn log_steps(
     going(channel, tally, filled)
 }
 
-fn log_post(setup: Setup, session: Session, out: &mut [u8], order: PostFields) -> Session {
+fn log_post(setup: Setup, session: Session, out: &mut [u8], order: Order) -> Session {
     let channel = session.channel;
     let tally = session.tally;
     let kept = flushed(out, session.filled);
     let Kept::Filled(at) = kept else {
         return stopped(channel, tally);
     };
-    let judged = post::post(setup, channel, sheethost::order_of(order));
+    let judged = post::post(setup, channel, order);
     let next = judged.channel;
     let verdict = judged.verdict;
     let number = refusal::verdict_number(verdict) as u32;
