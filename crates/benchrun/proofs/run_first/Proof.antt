@@ -11,15 +11,6 @@ returns c = search needs
 slice-aggregate-run-list : tie.Need-slice-aggregate-run-list
 slice-aggregate-run-list c = let a = c .before .before .before .before .before .args in sym (length-take-le (a .count) (a .list .now) (omega arith))
 
-run-list-requires : tie.Need-run-list-requires
-run-list-requires c κs = search needs
-
-same-length : tie.Need-same-length
-same-length c = search needs
-
-same-length-2 : tie.Need-same-length-2
-same-length-2 c = search needs
-
 returns-2 : tie.Need-returns-2
 returns-2 c = search needs
 
@@ -29,7 +20,7 @@ run-first-spec =
     (tie.spec
     returns
     slice-aggregate-run-list
-    run-list-requires
-    same-length
-    same-length-2
+    (λ c κs. search needs)  -- run-list-requires
+    (λ c. search needs)  -- same-length
+    (λ c. search needs)  -- same-length-2
     returns-2)

@@ -14,9 +14,6 @@ abbrev μ-loop : tie.MeasureT-loop
 loop-holds : tie.Need-loop-holds Inv-loop μ-loop
 loop-holds c = (refl, refl)
 
-step-requires : tie.Need-step-requires Inv-loop μ-loop
-step-requires c κs = tt
-
 add-done : tie.Need-add-done Inv-loop μ-loop
 add-done c = omega (arith, c .before .before .before .before .before .before .before .before .before .loop-test .taken, c .before .before .before .before .before .before .before .before .before .before .before .before .before .before .before .fits .steps)
 
@@ -45,7 +42,7 @@ single-steps-spec =
     Inv-loop
     μ-loop
     loop-holds
-    step-requires
+    (λ c κs. tt)  -- step-requires
     add-done
     loop-less
     loop-again

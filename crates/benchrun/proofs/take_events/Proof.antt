@@ -11,29 +11,8 @@ Inv-loop setup list slave₀ master₀ single session₀ count at₀ i₀ slave 
 abbrev μ-loop : tie.MeasureT-loop
 μ-loop setup list slave₀ master₀ single session₀ count at₀ i₀ slave master session at i = count - i
 
-fresh-channel-requires : tie.Need-fresh-channel-requires Inv-loop μ-loop
-fresh-channel-requires c κs = tt
-
-no-tally-requires : tie.Need-no-tally-requires Inv-loop μ-loop
-no-tally-requires c κs = tt
-
-event-count-requires : tie.Need-event-count-requires Inv-loop μ-loop
-event-count-requires c κs = tt
-
-first-event-requires : tie.Need-first-event-requires Inv-loop μ-loop
-first-event-requires c κs = tt
-
 loop-holds : tie.Need-loop-holds Inv-loop μ-loop
 loop-holds c = (refl, refl)
-
-event-at-requires : tie.Need-event-at-requires Inv-loop μ-loop
-event-at-requires c κs = tt
-
-take-event-requires : tie.Need-take-event-requires Inv-loop μ-loop
-take-event-requires c κs = tt
-
-next-event-requires : tie.Need-next-event-requires Inv-loop μ-loop
-next-event-requires c κs = tt
 
 add-i : tie.Need-add-i Inv-loop μ-loop
 add-i c = omega (arith, c .before .before .before .before .before .before .before .before .before .loop-test .taken)
@@ -62,14 +41,14 @@ take-events-spec =
     (tie.spec
     Inv-loop
     μ-loop
-    fresh-channel-requires
-    no-tally-requires
-    event-count-requires
-    first-event-requires
+    (λ c κs. tt)  -- fresh-channel-requires
+    (λ c κs. tt)  -- no-tally-requires
+    (λ c κs. tt)  -- event-count-requires
+    (λ c κs. tt)  -- first-event-requires
     loop-holds
-    event-at-requires
-    take-event-requires
-    next-event-requires
+    (λ c κs. tt)  -- event-at-requires
+    (λ c κs. tt)  -- take-event-requires
+    (λ c κs. tt)  -- next-event-requires
     add-i
     loop-less
     loop-again

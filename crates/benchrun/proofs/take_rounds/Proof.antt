@@ -11,17 +11,8 @@ Inv-loop setup list slave₀ master₀ times single session₀ i₀ slave master
 abbrev μ-loop : tie.MeasureT-loop
 μ-loop setup list slave₀ master₀ times single session₀ i₀ slave master session i = times - i
 
-fresh-channel-requires : tie.Need-fresh-channel-requires Inv-loop μ-loop
-fresh-channel-requires c κs = tt
-
-no-tally-requires : tie.Need-no-tally-requires Inv-loop μ-loop
-no-tally-requires c κs = tt
-
 loop-holds : tie.Need-loop-holds Inv-loop μ-loop
 loop-holds c = (refl, refl)
-
-take-events-requires : tie.Need-take-events-requires Inv-loop μ-loop
-take-events-requires c κs = tt
 
 add-i : tie.Need-add-i Inv-loop μ-loop
 add-i c = omega (arith, c .before .before .before .before .before .before .before .loop-test .taken, c .before .before .before .before .before .before .before .before .before .before .before .before .before .before .fits .times)
@@ -50,10 +41,10 @@ take-rounds-spec =
     (tie.spec
     Inv-loop
     μ-loop
-    fresh-channel-requires
-    no-tally-requires
+    (λ c κs. tt)  -- fresh-channel-requires
+    (λ c κs. tt)  -- no-tally-requires
     loop-holds
-    take-events-requires
+    (λ c κs. tt)  -- take-events-requires
     add-i
     loop-less
     loop-again

@@ -16,27 +16,6 @@ abbrev μ-loop : tie.MeasureT-loop
 loop-holds : tie.Need-loop-holds Inv-loop μ-loop
 loop-holds c = (omega arith, refl)
 
-mul-d : tie.Need-mul-d Inv-loop μ-loop
-mul-d c = omega arith
-
-shared-slice-read-wide : tie.Need-shared-slice-read-wide Inv-loop μ-loop
-shared-slice-read-wide c = omega arith
-
-wide-requires : tie.Need-wide-requires Inv-loop μ-loop
-wide-requires c κs = tt
-
-add-d : tie.Need-add-d Inv-loop μ-loop
-add-d c = omega arith
-
-add-d-2 : tie.Need-add-d-2 Inv-loop μ-loop
-add-d-2 c = omega arith
-
-add-i : tie.Need-add-i Inv-loop μ-loop
-add-i c = omega arith
-
-loop-less : tie.Need-loop-less Inv-loop μ-loop
-loop-less c = omega arith
-
 loop-again : tie.Need-loop-again Inv-loop μ-loop
 loop-again c =
     let l = c .before .before .before .loop in
@@ -55,12 +34,12 @@ digest-spec =
     Inv-loop
     μ-loop
     loop-holds
-    mul-d
-    shared-slice-read-wide
-    wide-requires
-    add-d
-    add-d-2
-    add-i
-    loop-less
+    (λ c. omega arith)  -- mul-d
+    (λ c. omega arith)  -- shared-slice-read-wide
+    (λ c κs. tt)  -- wide-requires
+    (λ c. omega arith)  -- add-d
+    (λ c. omega arith)  -- add-d-2
+    (λ c. omega arith)  -- add-i
+    (λ c. omega arith)  -- loop-less
     loop-again
     returns)

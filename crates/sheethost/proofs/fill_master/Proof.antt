@@ -16,18 +16,6 @@ abbrev μ-loop : tie.MeasureT-loop
 loop-holds : tie.Need-loop-holds Inv-loop μ-loop
 loop-holds c = (omega arith, refl, refl)
 
-cast-master : tie.Need-cast-master Inv-loop μ-loop
-cast-master c = omega arith
-
-slice-write-master : tie.Need-slice-write-master Inv-loop μ-loop
-slice-write-master c = omega arith
-
-add-i : tie.Need-add-i Inv-loop μ-loop
-add-i c = omega arith
-
-loop-less : tie.Need-loop-less Inv-loop μ-loop
-loop-less c = omega arith
-
 loop-again : tie.Need-loop-again Inv-loop μ-loop
 loop-again c =
     let l = c .before .loop in
@@ -48,10 +36,10 @@ fill-master-spec =
     Inv-loop
     μ-loop
     loop-holds
-    cast-master
-    slice-write-master
-    add-i
-    loop-less
+    (λ c. omega arith)  -- cast-master
+    (λ c. omega arith)  -- slice-write-master
+    (λ c. omega arith)  -- add-i
+    (λ c. omega arith)  -- loop-less
     loop-again
     same-length
     returns)

@@ -2,27 +2,6 @@ use borrow.Author.Needs.{needs}
 use Rattle.tally.proofs.add_entry.Statement.{statement}
 use Rattle.tally.proofs.add_entry.Tie as tie
 
-enum-told : tie.Need-enum-told
-enum-told c = search needs
-
-enum-told-2 : tie.Need-enum-told-2
-enum-told-2 c = search needs
-
-add-grant-requires : tie.Need-add-grant-requires
-add-grant-requires c κs = search needs
-
-enum-known-entry : tie.Need-enum-known-entry
-enum-known-entry c = search needs
-
-add-cycle-requires : tie.Need-add-cycle-requires
-add-cycle-requires c κs = search needs
-
-enum-known-entry-2 : tie.Need-enum-known-entry-2
-enum-known-entry-2 c = search needs
-
-add-release-requires : tie.Need-add-release-requires
-add-release-requires c κs = search needs
-
 returns : tie.Need-returns
 returns c = search needs
 
@@ -39,13 +18,13 @@ pub add-entry-spec : {M : Type 1} → statement M
 add-entry-spec =
     tie.close
     (tie.spec
-    enum-told
-    enum-told-2
-    add-grant-requires
-    enum-known-entry
-    add-cycle-requires
-    enum-known-entry-2
-    add-release-requires
+    (λ c. search needs)  -- enum-told
+    (λ c. search needs)  -- enum-told-2
+    (λ c κs. search needs)  -- add-grant-requires
+    (λ c. search needs)  -- enum-known-entry
+    (λ c κs. search needs)  -- add-cycle-requires
+    (λ c. search needs)  -- enum-known-entry-2
+    (λ c κs. search needs)  -- add-release-requires
     returns
     returns-2
     returns-3

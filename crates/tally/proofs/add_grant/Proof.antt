@@ -3,12 +3,13 @@ use borrow.Author.Needs.{needs}
 use Rattle.tally.proofs.add_grant.Statement.{statement}
 use Rattle.tally.proofs.add_grant.Tie as tie
 
-add-capped-requires : tie.Need-add-capped-requires
-add-capped-requires c κs = search needs
-
 returns : tie.Need-returns
 unfolding addGrant
 returns c = rw (c .add-capped .ensures)
 
 pub add-grant-spec : {M : Type 1} → statement M
-add-grant-spec = tie.close (tie.spec add-capped-requires returns)
+add-grant-spec =
+    tie.close
+    (tie.spec
+    (λ c κs. search needs)  -- add-capped-requires
+    returns)

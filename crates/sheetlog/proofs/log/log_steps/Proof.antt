@@ -19,38 +19,8 @@ loop-holds c = (refl, refl, refl)
 flushed-requires : tie.Need-flushed-requires Inv-loop μ-loop
 flushed-requires c κs = search needs
 
-enum-known-kept : tie.Need-enum-known-kept Inv-loop μ-loop
-enum-known-kept c = search needs
-
-enum-told : tie.Need-enum-told Inv-loop μ-loop
-enum-told c = search needs
-
-stopped-requires : tie.Need-stopped-requires Inv-loop μ-loop
-stopped-requires c κs = search needs
-
-same-length : tie.Need-same-length Inv-loop μ-loop
-same-length c = search needs
-
-same-length-2 : tie.Need-same-length-2 Inv-loop μ-loop
-same-length-2 c = search needs
-
-same-length-3 : tie.Need-same-length-3 Inv-loop μ-loop
-same-length-3 c = search needs
-
 returns : tie.Need-returns Inv-loop μ-loop
 returns c = search needs
-
-log-run-requires : tie.Need-log-run-requires Inv-loop μ-loop
-log-run-requires c κs = search needs
-
-enum-told-2 : tie.Need-enum-told-2 Inv-loop μ-loop
-enum-told-2 c = search needs
-
-enum-told-3 : tie.Need-enum-told-3 Inv-loop μ-loop
-enum-told-3 c = search needs
-
-log-stop-requires : tie.Need-log-stop-requires Inv-loop μ-loop
-log-stop-requires c κs = search needs
 
 same-length-4 : tie.Need-same-length-4 Inv-loop μ-loop
 same-length-4 c =
@@ -82,12 +52,6 @@ same-length-6 c =
 returns-2 : tie.Need-returns-2 Inv-loop μ-loop
 returns-2 c = search needs
 
-no-room-requires : tie.Need-no-room-requires Inv-loop μ-loop
-no-room-requires c κs = search needs
-
-stopped-requires-2 : tie.Need-stopped-requires-2 Inv-loop μ-loop
-stopped-requires-2 c κs = search needs
-
 same-length-7 : tie.Need-same-length-7 Inv-loop μ-loop
 same-length-7 c =
     let five = c .before .before .before .before .before in
@@ -118,9 +82,6 @@ same-length-9 c =
 returns-3 : tie.Need-returns-3 Inv-loop μ-loop
 returns-3 c = search needs
 
-less-requires : tie.Need-less-requires Inv-loop μ-loop
-less-requires c κs = search needs
-
 loop-less : tie.Need-loop-less Inv-loop μ-loop
 loop-less c =
     let five = c .before .before .before .before .before in
@@ -138,9 +99,6 @@ loop-again c =
     let l = twenty .before .before .before .before .loop .inv in
     let k = ten .before .before .before .before .log-run .kept in
     (k .1 .1 .1 .0 ∙ l .0, k .1 .1 .1 .1 .0 ∙ l .1, k .1 .1 .1 .1 .1 .0 ∙ l .2)
-
-going-requires : tie.Need-going-requires Inv-loop μ-loop
-going-requires c κs = search needs
 
 same-length-10 : tie.Need-same-length-10 Inv-loop μ-loop
 same-length-10 c = c .before .before .loop .inv .0
@@ -162,31 +120,31 @@ log-steps-spec =
     μ-loop
     loop-holds
     flushed-requires
-    enum-known-kept
-    enum-told
-    stopped-requires
-    same-length
-    same-length-2
-    same-length-3
+    (λ c. search needs)  -- enum-known-kept
+    (λ c. search needs)  -- enum-told
+    (λ c κs. search needs)  -- stopped-requires
+    (λ c. search needs)  -- same-length
+    (λ c. search needs)  -- same-length-2
+    (λ c. search needs)  -- same-length-3
     returns
-    log-run-requires
-    enum-told-2
-    enum-told-3
-    log-stop-requires
+    (λ c κs. search needs)  -- log-run-requires
+    (λ c. search needs)  -- enum-told-2
+    (λ c. search needs)  -- enum-told-3
+    (λ c κs. search needs)  -- log-stop-requires
     same-length-4
     same-length-5
     same-length-6
     returns-2
-    no-room-requires
-    stopped-requires-2
+    (λ c κs. search needs)  -- no-room-requires
+    (λ c κs. search needs)  -- stopped-requires-2
     same-length-7
     same-length-8
     same-length-9
     returns-3
-    less-requires
+    (λ c κs. search needs)  -- less-requires
     loop-less
     loop-again
-    going-requires
+    (λ c κs. search needs)  -- going-requires
     same-length-10
     same-length-11
     same-length-12

@@ -5,26 +5,11 @@ use native.Mathlib.Omega.{arith}
 use Rattle.sheetlog.proofs.log.run_first.Statement.{statement}
 use Rattle.sheetlog.proofs.log.run_first.Tie as tie
 
-no-room-requires : tie.Need-no-room-requires
-no-room-requires c κs = search needs
-
 returns : tie.Need-returns
 returns c = search needs
 
 slice-aggregate-run-list : tie.Need-slice-aggregate-run-list
 slice-aggregate-run-list c = let a = c .before .before .before .before .before .before .args in sym (length-take-le (a .count) (a .list .now) (omega arith))
-
-run-list-requires : tie.Need-run-list-requires
-run-list-requires c κs = search needs
-
-same-length : tie.Need-same-length
-same-length c = search needs
-
-same-length-2 : tie.Need-same-length-2
-same-length-2 c = search needs
-
-same-length-3 : tie.Need-same-length-3
-same-length-3 c = search needs
 
 returns-2 : tie.Need-returns-2
 returns-2 c = search needs
@@ -33,11 +18,11 @@ pub run-first-spec : {M : Type 1} → statement M
 run-first-spec =
     tie.close
     (tie.spec
-    no-room-requires
+    (λ c κs. search needs)  -- no-room-requires
     returns
     slice-aggregate-run-list
-    run-list-requires
-    same-length
-    same-length-2
-    same-length-3
+    (λ c κs. search needs)  -- run-list-requires
+    (λ c. search needs)  -- same-length
+    (λ c. search needs)  -- same-length-2
+    (λ c. search needs)  -- same-length-3
     returns-2)

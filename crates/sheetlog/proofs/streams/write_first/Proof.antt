@@ -5,17 +5,11 @@ use native.Mathlib.Omega.{arith}
 use Rattle.sheetlog.proofs.streams.write_first.Statement.{statement}
 use Rattle.sheetlog.proofs.streams.write_first.Tie as tie
 
-no-room-requires : tie.Need-no-room-requires
-no-room-requires c κs = search needs
-
 returns : tie.Need-returns
 returns c = search needs
 
 slice-aggregate-write-whole : tie.Need-slice-aggregate-write-whole
 slice-aggregate-write-whole c = sym (length-take-le _ _ (omega arith))
-
-write-whole-requires : tie.Need-write-whole-requires
-write-whole-requires c κs = search needs
 
 returns-2 : tie.Need-returns-2
 returns-2 c = search needs
@@ -23,4 +17,9 @@ returns-2 c = search needs
 pub write-first-spec : {M : Type 1} → statement M
 write-first-spec =
     tie.close
-    (tie.spec no-room-requires returns slice-aggregate-write-whole write-whole-requires returns-2)
+    (tie.spec
+    (λ c κs. search needs)  -- no-room-requires
+    returns
+    slice-aggregate-write-whole
+    (λ c κs. search needs)  -- write-whole-requires
+    returns-2)

@@ -13,35 +13,11 @@ abbrev μ-loop : tie.MeasureT-loop
 loop-holds : tie.Need-loop-holds Inv-loop μ-loop
 loop-holds c = search needs
 
-sub-write-some : tie.Need-sub-write-some Inv-loop μ-loop
-sub-write-some c = search needs
-
-part-write-some-start : tie.Need-part-write-some-start Inv-loop μ-loop
-part-write-some-start c = search needs
-
-part-write-some-end : tie.Need-part-write-some-end Inv-loop μ-loop
-part-write-some-end c = search needs
-
-write-some-requires : tie.Need-write-some-requires Inv-loop μ-loop
-write-some-requires c κs = search needs
-
 returns : tie.Need-returns Inv-loop μ-loop
 returns c = search needs
 
-slice-aggregate-say : tie.Need-slice-aggregate-say Inv-loop μ-loop
-slice-aggregate-say c = search needs
-
-say-requires : tie.Need-say-requires Inv-loop μ-loop
-say-requires c κs = search needs
-
 returns-2 : tie.Need-returns-2 Inv-loop μ-loop
 returns-2 c = search needs
-
-add-done : tie.Need-add-done Inv-loop μ-loop
-add-done c = search needs
-
-loop-less : tie.Need-loop-less Inv-loop μ-loop
-loop-less c = search needs
 
 loop-again : tie.Need-loop-again Inv-loop μ-loop
 loop-again c = search needs
@@ -56,15 +32,15 @@ write-whole-spec =
     Inv-loop
     μ-loop
     loop-holds
-    sub-write-some
-    part-write-some-start
-    part-write-some-end
-    write-some-requires
+    (λ c. search needs)  -- sub-write-some
+    (λ c. search needs)  -- part-write-some-start
+    (λ c. search needs)  -- part-write-some-end
+    (λ c κs. search needs)  -- write-some-requires
     returns
-    slice-aggregate-say
-    say-requires
+    (λ c. search needs)  -- slice-aggregate-say
+    (λ c κs. search needs)  -- say-requires
     returns-2
-    add-done
-    loop-less
+    (λ c. search needs)  -- add-done
+    (λ c. search needs)  -- loop-less
     loop-again
     returns-3)
