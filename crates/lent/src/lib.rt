@@ -9,22 +9,6 @@ ghost use mathlib.Core.Path.{_≡_};
 ghost use Rattle.step.specs.Step.{stepOf, slaveAfter, masterAfter};
 ghost use Rattle.step.specs.Run.{world, runOf};
 
-// The tally of a step's result.
-fn step_tally(stepped: Stepped) -> Tally
-    ensures { λ r. ⌜ r ≡ stepped .tally ⌝ }
-{
-    let tally = stepped.tally;
-    tally
-}
-
-// The tally of a run's result.
-fn run_tally(ran: Ran) -> Tally
-    ensures { λ r. ⌜ r ≡ ran .tally ⌝ }
-{
-    let tally = ran.tally;
-    tally
-}
-
 // One step with the lent tally. A refused step leaves the tally, gives back the channel that it got and writes to no store.
 pub fn step(
     setup: Setup,
@@ -39,7 +23,7 @@ pub fn step(
     ensures { λ r. ⌜ now (master .exit) ≡ masterAfter setup channel (now (slave .entry)) (now (master .entry)) ⌝ }
 {
     let next = step::step(setup, channel, *tally, slave, master);
-    *tally = step_tally(next);
+    *tally = next.tally;
     next
 }
 
@@ -58,6 +42,6 @@ pub fn run(
     ensures { λ r. ⌜ now (master .exit) ≡ runOf setup budget (world channel (now (tally .entry)) (now (slave .entry)) (now (master .entry))) .master ⌝ }
 {
     let next = step::run(setup, channel, *tally, slave, master, budget);
-    *tally = run_tally(next);
+    *tally = next.tally;
     next
 }

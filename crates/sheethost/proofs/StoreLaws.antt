@@ -31,7 +31,8 @@ master-more store i inside begun =
     ∙ sym (ap masterStore (add-one i) ∙ bytes-more 0 i ∙ ap (λ (n : ℕ). masterStore i ++ ((n % 251) ∷ [])) (zero-add i))
 
 -- and in the slave store 0
-pub slave-more : (store : List ℕ) (i : ℕ) → i < length store → take i store ≡ slaveStore i → take (i + 1) (set store i 0) ≡ slaveStore (i + 1)
+pub slave-more : (store : List ℕ) (i : ℕ) → i < length store → take i store ≡ slaveStore i → take (i + 1) (set store i 0) ≡ slaveStore
+    (i + 1)
 slave-more store i inside begun =
     ap (λ (n : ℕ). take n (set store i 0)) (add-one i)
     ∙ take-suc-set store i 0 inside

@@ -1,5 +1,5 @@
--- What a program that runs a sheet has beside the calls: the stores at the start (document 01, "One sheet, whole"), a store's digest (docs/DECISIONS.md, 29),
--- and a number in four bytes.
+-- What a program that runs a sheet has beside the calls: the stores at the start (document 01, "One sheet, whole"), a store's digest
+-- (docs/DECISIONS.md, 29), and a number in four bytes.
 use Prim.Native.Nat.{ℕ, zero, suc, _+_, _*_, _%_}
 use mathlib.Core.List.{List, [], _∷_}
 use lib.ListN.{getD, replicate}
