@@ -23,8 +23,6 @@ use Rattle.channel.specs.Channel.{hasRequest, requestOf}
 use Rattle.channel.specs.Line.{isInactive, line}
 use Rattle.sound.specs.Request.{requestVerdict, transferOf}
 
--- the limit of the clock, for whoever has it from here
-
 -- "granted to an absent level, or to one other than 15 without a request, or to an inactive one"
 unfoldable pub isGrantSound : LevelRows → Channel → ℕ → Bool
 isGrantSound levels ch owner =
