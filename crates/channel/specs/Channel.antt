@@ -96,7 +96,7 @@ fresh =
 unfoldable pub setUp : Setup → Judged
 setUp setup = record { channel = fresh; verdict = refusedBy ((9, not (isFramed setup)) ∷ []) Accepted }
 
--- every channel of the program: its arrays have a place for each level
+-- For the laws only. Every channel of the program: its arrays have a place for each level
 pub record Shaped (ch : Channel) : Type 0 where
   pub inactive : length (ch .inactive) ≡ places
   pub direction : length (ch .direction) ≡ places

@@ -37,7 +37,7 @@ use Rattle.sheet.specs.Sheet.{
   levelOf,
   slaveOf,
 }
-use Rattle.sheet.specs.Judge.{padded, taken, levelRead, slaveRead}
+use Rattle.sheet.specs.inner.Judge.{padded, taken, levelRead, slaveRead}
 
 module _ (src : Source) (at : ℕ) {left k : ℕ} (more : left ≡ suc k) where
   -- numbers in a row

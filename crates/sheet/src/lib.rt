@@ -17,7 +17,7 @@ ghost use lib.ListN.{length};
 ghost use lib.Seq.{sets};
 ghost use Rattle.basics.specs.Limits.{rowsMost};
 ghost use Rattle.sheet.specs.Sheet.{between};
-ghost use Rattle.sheet.specs.Judge.{source, lengthOf, taken, levelRead, slaveRead};
+ghost use Rattle.sheet.specs.inner.Judge.{source, lengthOf, taken, levelRead, slaveRead};
 ghost use Rattle.sheet.specs.Sheet.{levels, slaves, rowsFrom, counted, stepCount, event, events, countedEvents, ended, body, sheet};
 ghost use Rattle.sheet.specs.Sheet.{numbersOf, allBytes, readAnswer, readStored, writeAnswer, writeStored};
 

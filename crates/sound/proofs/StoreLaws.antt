@@ -14,7 +14,7 @@ use Rattle.frame.proofs.SlaveLaws.{broken-by, length-by}
 use Rattle.channel.specs.declared.Channel.{Channel}
 use Rattle.sound.specs.declared.Seats.{Seats}
 use Rattle.sound.specs.Sound.{isSound, soundStore}
-use Rattle.sound.specs.Tables.{membersAt, AreMembers, AreSeats}
+use Rattle.sound.specs.inner.Tables.{membersAt, AreMembers, AreSeats}
 
 pub seated : (levels : LevelRows) (seats : Seats) (long : Bool) → AreSeats levels seats → not (seats .fits && long) ≡ false
     → AreMembers levels (membersAt (seats .present) (seats .fair))

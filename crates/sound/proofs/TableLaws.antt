@@ -51,7 +51,7 @@ use Rattle.sound.specs.Sound.{
   isAskedSound,
   isSound,
 }
-use Rattle.sound.specs.Tables.{
+use Rattle.sound.specs.inner.Tables.{
   isFairRow,
   Tells,
   AreMembers,

@@ -1,3 +1,3 @@
 pub mod Request
 pub mod Sound
-pub mod Tables
+pub mod inner

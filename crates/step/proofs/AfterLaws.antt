@@ -12,7 +12,7 @@ use Rattle.frame.specs.Rows.{hasBurst}
 use Rattle.act.specs.declared.Path.{Path}
 use Rattle.act.specs.declared.Ending.the-variants.{Kept}
 use Rattle.act.specs.Cycle.{cycleBytes, restAfter, cycleOf, isLate, isLeaving, releasedBy, endingOf, nextTime}
-use Rattle.step.specs.Machine.{isInside, leavesAt, afterOf}
+use Rattle.step.specs.inner.Machine.{isInside, leavesAt, afterOf}
 
 module _ (path : Path) (asked : Asked) (clock : ℕ) (rest : Request) (some : 0 < rest .left) where
   open-rest : eqb (rest .left) 0 ≡ false

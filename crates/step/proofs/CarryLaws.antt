@@ -36,7 +36,7 @@ use Rattle.step.specs.Step.{
   masterAfter,
   decisionOf,
 }
-use Rattle.step.specs.Machine.{decisionBy, refusedDecision}
+use Rattle.step.specs.inner.Machine.{decisionBy, refusedDecision}
 use Rattle.step.proofs.PlanLaws.{planned-roomy, ready-is, carry-room}
 
 module _ (c : Carry) (s m : ℕ) where

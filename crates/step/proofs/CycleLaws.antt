@@ -27,8 +27,8 @@ use Rattle.act.specs.Cycle.{pathOf, cycleBytes, cycleOf, endingOf, isKept, isMa
 use Rattle.tally.specs.Tally.{addCycle}
 use Rattle.step.specs.Step.{Ready, Way, carryOf, movedSlave, movedMaster}
 use Rattle.step.specs.declared.turns.Tenure.{Tenure}
-use Rattle.step.specs.Machine.{standingOf, fullActed, standingAfter, cycleActed, cycleDecided, cycleMarks, channelBy}
-use Rattle.step.specs.Turns.{Running, runBy, stepRun, cycled, filled, heldOf, held, tenureOf, afterHeld, cyclesRun}
+use Rattle.step.specs.inner.Machine.{standingOf, fullActed, standingAfter, cycleActed, cycleDecided, cycleMarks, channelBy}
+use Rattle.step.specs.inner.Turns.{Running, runBy, stepRun, cycled, filled, heldOf, held, tenureOf, afterHeld, cyclesRun}
 use Rattle.step.proofs.PlanLaws.{roomy}
 use Rattle.step.proofs.KeepLaws.{clocked-shaped}
 use Rattle.step.proofs.DecideLaws.{decides-late, decides-cycle}

@@ -15,7 +15,7 @@ use Rattle.act.specs.Turn.{arbitrationTime}
 use Rattle.step.specs.declared.acts.Standing.{Standing}
 use Rattle.step.specs.declared.acts.Decided.{Decided}
 use Rattle.step.specs.declared.acts.Chosen.{Chosen}
-use Rattle.step.specs.Machine.{
+use Rattle.step.specs.inner.Machine.{
   Search,
   IsChosen,
   fullActed,

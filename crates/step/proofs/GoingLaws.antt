@@ -22,8 +22,8 @@ use Rattle.act.specs.declared.Path.{Path}
 use Rattle.act.specs.Cycle.{pathOf}
 use Rattle.step.specs.Step.{Ready}
 use Rattle.step.specs.Run.{ended, runFrom}
-use Rattle.step.specs.Machine.{noPath, NoneAsk}
-use Rattle.step.specs.Turns.{
+use Rattle.step.specs.inner.Machine.{noPath, NoneAsk}
+use Rattle.step.specs.inner.Turns.{
   Running,
   worldOf,
   verdictIf,

@@ -18,7 +18,7 @@ use Rattle.act.specs.declared.Ending.the-variants.{Kept, Released, Marked}
 use Rattle.act.specs.Cycle.{cycleOf, releasedBy, endingOf, isLeaving, isKept}
 use Rattle.step.specs.Step.{Way, Roomy, carryOf, movedSlave, movedMaster}
 use Rattle.step.specs.declared.turns.Tenure.{Tenure}
-use Rattle.step.specs.Turns.{heldOf, held, cycled, filled}
+use Rattle.step.specs.inner.Turns.{heldOf, held, cycled, filled}
 use Rattle.step.proofs.CycleFacts.{Leaves, leaves}
 
 module _ (path : Path) (asked : Asked) (budget : ℕ) (t : Tenure) (slave master : List ℕ) (h : t .done < budget) where

@@ -14,7 +14,7 @@ use Rattle.refusal.specs.declared.Refusal.{Refusal}
 use Rattle.frame.specs.declared.Setup.{Setup}
 use Rattle.channel.specs.declared.Request.{Request}
 use Rattle.channel.specs.Channel.{placeIn, requestOf, withRequest}
-use Rattle.sound.specs.Tables.{requestAt}
+use Rattle.sound.specs.inner.Tables.{requestAt}
 use Rattle.act.specs.declared.Path.{Path}
 use Rattle.act.specs.declared.Entry.{Entry}
 use Rattle.logline.specs.Line.{entryText}
@@ -24,9 +24,9 @@ use Rattle.step.specs.declared.StepAnswer.the-variants.{Done, Refused as
 use Rattle.step.specs.declared.acts.Decided.{Decided}
 use Rattle.step.specs.declared.logs.Log.{Log}
 use Rattle.step.specs.Step.{Room, movedSlave, movedMaster}
-use Rattle.step.specs.Machine.{noPath, standingOf, decidedOf, decidedMarks, Actable}
+use Rattle.step.specs.inner.Machine.{noPath, standingOf, decidedOf, decidedMarks, Actable}
 use Rattle.step.specs.Log.{Page, lined, closed, logFrom}
-use Rattle.step.specs.Turns.{
+use Rattle.step.specs.inner.Turns.{
   Running,
   worldOf,
   verdictIf,

@@ -33,7 +33,7 @@ use Rattle.step.specs.declared.acts.Decided.{Decided}
 use Rattle.step.specs.Plan.{ownerPlan, requestPlan, phasePlan, actPlan}
 use Rattle.step.specs.declared.Plan.the-variants as plan
 use Rattle.step.specs.Step.{Ready, advancedBy, tallied, noCarry, carryBy}
-use Rattle.step.specs.Machine.{
+use Rattle.step.specs.inner.Machine.{
   standingOf,
   marksLeft,
   grantMarks,
@@ -54,7 +54,7 @@ use Rattle.step.specs.Machine.{
   Actable,
   decisionBy,
 }
-use Rattle.step.specs.Turns.{decidedIn, marksIn}
+use Rattle.step.specs.inner.Turns.{decidedIn, marksIn}
 use Rattle.step.proofs.PlanLaws.{roomy}
 use Rattle.step.proofs.KeepLaws.{pathAt, nextCycle}
 use Rattle.step.proofs.QuietLaws.{cycle-quiet, leave-quiet}

@@ -13,8 +13,8 @@ use Rattle.frame.specs.declared.Setup.{Setup}
 use Rattle.channel.specs.declared.Request.{Request}
 use Rattle.act.specs.declared.Path.{Path}
 use Rattle.act.specs.Cycle.{pathOf}
-use Rattle.step.specs.Machine.{noPath}
-use Rattle.step.specs.Turns.{ArePaths}
+use Rattle.step.specs.inner.Machine.{noPath}
+use Rattle.step.specs.inner.Turns.{ArePaths}
 
 -- the levels below one more: of one with an open request, and of one without
 module _ (setup : Setup) (request : ℕ → Request) (paths : List Path) (i : ℕ) where

@@ -36,7 +36,7 @@ use Rattle.step.specs.declared.Plan.the-variants.{Idle, Refused, Grant, 
 use Rattle.step.specs.Plan.{nextOf, timed, ownerPlan, phasePlan, actPlan, readyVerdict, planBy, planOf}
 use Rattle.step.specs.declared.StepAnswer.the-variants.{Refused as NotDone}
 use Rattle.step.specs.declared.Carry.{Carry}
-use Rattle.step.specs.Machine.{planIn}
+use Rattle.step.specs.inner.Machine.{planIn}
 use Rattle.step.specs.Step.{Ready, Roomy, Room, advancedBy, carryOf, movedSlave, movedMaster, slaveBy, masterBy}
 
 -- what is known where a plan was made

@@ -29,7 +29,7 @@ use Rattle.step.specs.declared.acts.Acted.{Acted}
 use Rattle.step.specs.declared.acts.Chosen.{Chosen}
 use Rattle.step.specs.declared.turns.State.{State}
 use Rattle.step.specs.declared.turns.Tenure.{Tenure}
-use Rattle.step.specs.Machine.{
+use Rattle.step.specs.inner.Machine.{
   NoneAsk,
   NoneWait,
   IsChosen,
@@ -41,7 +41,7 @@ use Rattle.step.specs.Machine.{
   standingAfter,
   stays,
 }
-use Rattle.step.specs.Turns.{
+use Rattle.step.specs.inner.Turns.{
   Running,
   runningOf,
   decidedIn,

@@ -17,7 +17,7 @@ use Rattle.channel.specs.declared.Phase.the-variants.{Granted}
 use Rattle.channel.specs.Channel.{hasRequest}
 use Rattle.channel.specs.Line.{isInactive, waits, lineActive, winner, winnerFrom}
 use Rattle.channel.proofs.LineLaws.{waits-is, line-by, line-some, winner-is, winner-lowest}
-use Rattle.step.specs.Machine.{anyFrom, waitsFrom, asksBeside, othersFrom, NoneAsk, NoneWait, Search, marksLeft, IsChosen}
+use Rattle.step.specs.inner.Machine.{anyFrom, waitsFrom, asksBeside, othersFrom, NoneAsk, NoneWait, Search, marksLeft, IsChosen}
 
 -- one of the numbers from i on
 pub from-hit : (f : ℕ → Bool) (i k j : ℕ) → i ≤ j → j < i + k → f j ≡ true → anyFrom f i k ≡ true

@@ -33,7 +33,7 @@ use Rattle.step.specs.declared.StepAnswer.the-variants.{Done, Refused as
 use Rattle.step.specs.Plan.{actPlan, planOf}
 use Rattle.step.specs.Step.{Ready, Room, advancedBy, tallyBy, stepOf, slaveBy, masterBy, slaveAfter, masterAfter}
 use Rattle.step.specs.Run.{world, stepIn, after, runFrom}
-use Rattle.step.specs.Turns.{Running, worldOf, toCome, steps, stops, decidedIn, stepRun}
+use Rattle.step.specs.inner.Turns.{Running, worldOf, toCome, steps, stops, decidedIn, stepRun}
 use Rattle.step.proofs.PlanLaws.{says, plan-ready, planned-roomy, moved-lengths}
 use Rattle.step.proofs.KeepLaws.{step-sound, step-shaped, pathAt, nextCycle, restAt, movedAt, here, other, same-path}
 use Rattle.step.proofs.CarryLaws.{carried, act-room}

@@ -2,5 +2,4 @@ pub mod Plan
 pub mod Step
 pub mod Run
 pub mod Log
-pub mod Machine
-pub mod Turns
+pub mod inner

@@ -144,7 +144,7 @@ carriedSlave c slave master = cond (hasRoom c (length slave) (length master)) (m
 unfoldable pub carriedMaster : Carry → List ℕ → List ℕ → List ℕ
 carriedMaster c slave master = cond (hasRoom c (length slave) (length master)) (movedMaster c slave master) master
 
--- what a step that is not refused by 9 or 8 may rely on: the set-up keeps the frame, the channel is sound, the stores have the set-up's lengths
+-- For the laws only, from here on. What a step that is not refused by 9 or 8 may rely on: the set-up keeps the frame, the channel is sound, the stores have the set-up's lengths
 pub record Ready (setup : Setup) (ch : Channel) (s m : ℕ) : Type 0 where
   pub framed : isFramed setup ≡ true
   pub sound : isSound setup ch ≡ true

@@ -26,13 +26,13 @@ ghost use lib.ListN.{set};
 ghost use lib.Dec.{ltb};
 ghost use Rattle.basics.specs.Limits.{places, clockLimit};
 ghost use Rattle.channel.specs.Channel.{placeIn};
-ghost use Rattle.sound.specs.Tables.{requestAt};
+ghost use Rattle.sound.specs.inner.Tables.{requestAt};
 ghost use Rattle.act.specs.Cycle.{cycleBytes};
 ghost use Rattle.act.specs.Turn.{arbitrationTime};
 ghost use Rattle.step.specs.Step.{Way};
-ghost use Rattle.step.specs.Machine.{waitsFrom, othersFrom, Search, IsChosen, channelOf};
-ghost use Rattle.step.specs.Machine.{fullActed, grantedBy, restActed, standingAfter, stays, cycleActed, cycleDecided, cycleMarks};
-ghost use Rattle.step.specs.Machine.{Actable, decidedOf, decidedMarks};
+ghost use Rattle.step.specs.inner.Machine.{waitsFrom, othersFrom, Search, IsChosen, channelOf};
+ghost use Rattle.step.specs.inner.Machine.{fullActed, grantedBy, restActed, standingAfter, stays, cycleActed, cycleDecided, cycleMarks};
+ghost use Rattle.step.specs.inner.Machine.{Actable, decidedOf, decidedMarks};
 
 // What a step changes beside the channel's arrays and the stores.
 pub(crate) struct Standing {

@@ -14,7 +14,7 @@ ghost use Rattle.basics.specs.Limits.{memoryEnd, storeMost};
 ghost use Rattle.cycle.specs.Cycle.{isWidth, isPort};
 ghost use Rattle.act.specs.Cycle.{cycleBytes, restAfter, nextTime, isLate};
 ghost use Rattle.step.specs.Step.{Way, Room, carryOf, movedSlave, movedMaster};
-ghost use Rattle.step.specs.Machine.{isInside, leavesAt, afterOf};
+ghost use Rattle.step.specs.inner.Machine.{isInside, leavesAt, afterOf};
 
 // What a cycle leaves of its request, and how it ends.
 pub(crate) struct After {

@@ -36,7 +36,7 @@ ghost use Rattle.step.specs.Plan.{actPlan, readyVerdict, planOf};
 ghost use Rattle.step.specs.Step.{Ready, stepOf, slaveAfter, masterAfter, decisionOf, hasRoom, carriedSlave, carriedMaster};
 ghost use Rattle.step.specs.Run.{world, runBy, runOf};
 ghost use Rattle.step.specs.Log.{page, logBy, logOf};
-ghost use Rattle.step.specs.Machine.{pathFor, planIn, decisionBy, refusedDecision, refusedRun, refusedLog};
+ghost use Rattle.step.specs.inner.Machine.{pathFor, planIn, decisionBy, refusedDecision, refusedRun, refusedLog};
 
 // What a step is going to do.
 pub enum Plan {

@@ -25,7 +25,7 @@ ghost use Rattle.channel.specs.Channel.{Shaped, placeIn};
 ghost use Rattle.step.specs.Step.{Ready};
 ghost use Rattle.step.specs.Run.{world};
 ghost use Rattle.step.specs.Log.{page, logFrom};
-ghost use Rattle.step.specs.Turns.{runningBy, loggingOf, logStep, Loggable};
+ghost use Rattle.step.specs.inner.Turns.{runningBy, loggingOf, logStep, Loggable};
 
 // A logged run: what stands after its last step, the steps done, whether the next one would pass the clock's limit, and where
 // the next line goes.

@@ -36,12 +36,12 @@ ghost use lib.ListN.{length};
 ghost use Rattle.basics.specs.Limits.{places, systemMaster, clockLimit, stepsMost};
 ghost use Rattle.channel.specs.Channel.{Shaped};
 ghost use Rattle.channel.specs.Line.{isInactive};
-ghost use Rattle.sound.specs.Tables.{requestAt};
+ghost use Rattle.sound.specs.inner.Tables.{requestAt};
 ghost use Rattle.act.specs.Cycle.{cycleBytes};
 ghost use Rattle.step.specs.Step.{Ready, Way, Roomy};
 ghost use Rattle.step.specs.Run.{world, runFrom};
-ghost use Rattle.step.specs.Machine.{NoneAsk, channelOf};
-ghost use Rattle.step.specs.Turns.{cycled, filled, held, ArePaths, onward, cyclesRun, Lows, Turnable, runningOf, turnOf, verdictIf};
+ghost use Rattle.step.specs.inner.Machine.{NoneAsk, channelOf};
+ghost use Rattle.step.specs.inner.Turns.{cycled, filled, held, ArePaths, onward, cyclesRun, Lows, Turnable, runningOf, turnOf, verdictIf};
 
 // A run: what stands after its last turn, the steps done, whether the next one would pass the clock's limit, and a level
 // below which nobody waits.

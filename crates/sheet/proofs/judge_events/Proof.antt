@@ -2,7 +2,7 @@
 use Prim.Native.Nat.{suc, _-_}
 use Rattle.sheet.proofs.Laws.{events-on, events-fault}
 use Rattle.sheet.specs.Sheet.{events}
-use Rattle.sheet.specs.Judge.{source}
+use Rattle.sheet.specs.inner.Judge.{source}
 use borrow.Author.Needs.{needs}
 use denote.Ref.{now}
 use mathlib.Core.Path.{_≡_, refl, sym, _∙_}

@@ -4,7 +4,7 @@ use Rattle.basics.specs.Limits.{rowsMost}
 use Rattle.frame.specs.declared.LevelRows.{LevelRows}
 use Rattle.sheet.proofs.Laws.{rows-on, rows-not, rows-fault}
 use Rattle.sheet.specs.Sheet.{levels, rowsFrom, withLevel}
-use Rattle.sheet.specs.Judge.{source}
+use Rattle.sheet.specs.inner.Judge.{source}
 use Rattle.sheet.specs.declared.LevelRead.{LevelRead}
 use borrow.Author.Needs.{needs}
 use borrow.Author.Tests.{not-true, not-false}

@@ -1,5 +1,5 @@
 use Rattle.sheet.proofs.Laws.{level-read}
-use Rattle.sheet.specs.Judge.{source}
+use Rattle.sheet.specs.inner.Judge.{source}
 use borrow.Author.Needs.{needs}
 use denote.Ref.{now}
 use Rattle.sheet.proofs.level_at.Statement.{statement}

@@ -2,7 +2,7 @@
 use Prim.Native.Nat.{suc, _+_, _-_, _≤_}
 use Rattle.sheet.proofs.Laws.{past-on, past-fault, stored-on, numbers-end, taken-is}
 use Rattle.sheet.specs.Sheet.{past, numbers}
-use Rattle.sheet.specs.Judge.{source, padded}
+use Rattle.sheet.specs.inner.Judge.{source, padded}
 use borrow.Author.Needs.{needs}
 use denote.Ref.{now}
 use lib.ListN.{length, length-set}

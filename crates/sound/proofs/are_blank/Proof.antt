@@ -1,7 +1,7 @@
 use Prim.Native.Nat.{ℕ, _-_, _≤_}
 use Rattle.basics.specs.Limits.{places}
 use Rattle.basics.specs.Scan.{allBelow}
-use Rattle.sound.specs.Tables.{requestAt, isBlankOr, areBlank}
+use Rattle.sound.specs.inner.Tables.{requestAt, isBlankOr, areBlank}
 use mathlib.Core.Path.{_≡_, refl}
 use native.Mathlib.Numerals.{add-one}
 use native.Mathlib.Omega.{arith}

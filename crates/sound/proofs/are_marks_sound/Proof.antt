@@ -3,7 +3,7 @@ use Rattle.basics.proofs.ScanLaws.{all-more, all-miss}
 use Rattle.basics.specs.Limits.{places}
 use Rattle.basics.specs.Scan.{allBelow}
 use Rattle.channel.specs.Line.{isInactive}
-use Rattle.sound.specs.Tables.{areMarked}
+use Rattle.sound.specs.inner.Tables.{areMarked}
 use borrow.Author.Tests.{not-true, not-false}
 use lib.ListN.{getD}
 use mathlib.Core.Bool.{true, false, not, _&&_, _||_}

@@ -5,7 +5,7 @@ use Rattle.basics.specs.Scan.{allBelow}
 use Rattle.channel.specs.declared.Request.{Request}
 use Rattle.frame.specs.Frame.{present as presentRows}
 use Rattle.sound.proofs.TableLaws.{SearchedTo, searched-none, turn-closed, turn-none, turn-held, turn-on}
-use Rattle.sound.specs.Tables.{requestAt, openSound, areOpenSound}
+use Rattle.sound.specs.inner.Tables.{requestAt, openSound, areOpenSound}
 use borrow.Author.Tests.{not-true, not-false, eq-eqb, ne-eqb}
 use denote.Ref.{now}
 use lib.ListN.{getD}

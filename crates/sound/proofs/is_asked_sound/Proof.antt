@@ -1,4 +1,4 @@
-use Rattle.sound.specs.Tables.{askedFits}
+use Rattle.sound.specs.inner.Tables.{askedFits}
 use mathlib.Core.Path.{sym, ap₂, _∙_}
 use borrow.Author.Needs.{needs}
 use Rattle.sound.proofs.is_asked_sound.Statement.{statement}

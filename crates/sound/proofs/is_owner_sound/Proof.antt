@@ -1,5 +1,5 @@
 use Rattle.channel.specs.declared.Phase.{Phase}
-use Rattle.sound.specs.Tables.{ownerFits}
+use Rattle.sound.specs.inner.Tables.{ownerFits}
 use borrow.Author.Needs.{needs}
 use denote.Ref.{now}
 use mathlib.Core.Path.{sym, ap, _∙_}

@@ -3,7 +3,7 @@ use Rattle.basics.specs.Limits.{places}
 use Rattle.frame.specs.Frame.{present as presentRows}
 use Rattle.sound.proofs.TableLaws.{TellsFrom, tells-none, tells-more, tells-same, tells-all}
 use Rattle.frame.specs.Rows.{isLevel}
-use Rattle.sound.specs.Tables.{isFairRow}
+use Rattle.sound.specs.inner.Tables.{isFairRow}
 use lib.ListN.{length, length-set, replicate, getD-replicate}
 use mathlib.Core.Bool.{true, false}
 use mathlib.Core.Logic.{⊎-elim}

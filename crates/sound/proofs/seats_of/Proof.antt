@@ -8,7 +8,7 @@ use Rattle.frame.specs.Frame.{levelRowFits, levelsFit}
 use Rattle.frame.specs.Rows.{isLevel}
 use Rattle.frame.specs.declared.LevelRows.{LevelRows}
 use Rattle.sound.proofs.TableLaws.{TellsFrom, tells-none, tells-more, tells-all, fits-small, all-less}
-use Rattle.sound.specs.Tables.{isFairRow}
+use Rattle.sound.specs.inner.Tables.{isFairRow}
 use borrow.Author.Needs.{needs}
 use borrow.Author.Tests.{not-true, not-false}
 use lib.ListN.{length, length-set, replicate, getD-replicate}

@@ -1,7 +1,7 @@
 use mathlib.Core.Path.{ap, _∙_}
 use Rattle.step.specs.declared.Decision.{Decision}
 use Rattle.step.specs.Plan.{actPlan}
-use Rattle.step.specs.Machine.{planIn}
+use Rattle.step.specs.inner.Machine.{planIn}
 use Rattle.step.proofs.PlanLaws.{plan-in}
 use borrow.Author.Needs.{needs}
 use Rattle.step.proofs.plan_ready.Statement.{statement}

@@ -1,4 +1,4 @@
-use Rattle.step.specs.Machine.{cycleActed}
+use Rattle.step.specs.inner.Machine.{cycleActed}
 use borrow.Author.Needs.{needs}
 use Rattle.step.proofs.acts.cycled.Statement.{statement}
 use Rattle.step.proofs.acts.cycled.Tie as tie

@@ -1,4 +1,4 @@
-use Rattle.step.specs.Machine.{cycleDecided, cycleMarks, afterOf}
+use Rattle.step.specs.inner.Machine.{cycleDecided, cycleMarks, afterOf}
 use borrow.Author.Needs.{needs}
 use Rattle.step.proofs.acts.decide_cycle.Statement.{statement}
 use Rattle.step.proofs.acts.decide_cycle.Tie as tie

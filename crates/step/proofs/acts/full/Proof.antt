@@ -1,5 +1,5 @@
 use mathlib.Core.Path.{refl}
-use Rattle.step.specs.Machine.{fullActed}
+use Rattle.step.specs.inner.Machine.{fullActed}
 use Rattle.step.proofs.acts.full.Statement.{statement}
 use Rattle.step.proofs.acts.full.Tie as tie
 

@@ -1,4 +1,4 @@
-use Rattle.step.specs.Machine.{grantedBy}
+use Rattle.step.specs.inner.Machine.{grantedBy}
 use borrow.Author.Needs.{needs}
 use Rattle.step.proofs.acts.granted.Statement.{statement}
 use Rattle.step.proofs.acts.granted.Tie as tie

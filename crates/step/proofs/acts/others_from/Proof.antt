@@ -2,7 +2,7 @@ use mathlib.Core.Path.{_≡_, refl, sym, _∙_}
 use native.Mathlib.Omega.{arith}
 use Prim.Native.Nat.{_-_}
 use Rattle.basics.specs.Limits.{places}
-use Rattle.step.specs.Machine.{anyFrom, asksBeside, othersFrom}
+use Rattle.step.specs.inner.Machine.{anyFrom, asksBeside, othersFrom}
 use Rattle.step.proofs.SearchLaws.{from-hit, from-miss}
 use Rattle.step.proofs.acts.others_from.Statement.{statement}
 use Rattle.step.proofs.acts.others_from.Tie as tie

@@ -1,5 +1,5 @@
 use mathlib.Core.Path.{sym, _∙_}
-use Rattle.step.specs.Machine.{standingAfter}
+use Rattle.step.specs.inner.Machine.{standingAfter}
 use borrow.Author.Needs.{needs}
 use Rattle.step.proofs.acts.standing_after.Statement.{statement}
 use Rattle.step.proofs.acts.standing_after.Tie as tie

@@ -3,7 +3,7 @@ use native.Mathlib.Omega.{arith}
 use Prim.Native.Nat.{_-_}
 use Rattle.basics.specs.Limits.{places}
 use Rattle.channel.specs.Line.{waits}
-use Rattle.step.specs.Machine.{anyFrom, waitsFrom}
+use Rattle.step.specs.inner.Machine.{anyFrom, waitsFrom}
 use Rattle.step.proofs.SearchLaws.{from-hit, from-miss}
 use Rattle.step.proofs.acts.waits_from.Statement.{statement}
 use Rattle.step.proofs.acts.waits_from.Tie as tie

@@ -3,7 +3,7 @@ use native.Mathlib.Omega.{arith}
 use lib.ListN.{length}
 use Rattle.frame.specs.declared.Setup.{Setup}
 use Rattle.step.specs.Log.{LoggedOut}
-use Rattle.step.specs.Turns.{loggingOf}
+use Rattle.step.specs.inner.Turns.{loggingOf}
 use Rattle.step.proofs.GoingLaws.{Going, place-below, loggable, nearness, nearer}
 use Rattle.step.proofs.LogLaws.{Logs, logs-first, goes, logs-on, logs-more, log-finished, log-first}
 use Rattle.step.proofs.logs.log_steps.Statement.{statement}

@@ -1,5 +1,5 @@
-use Rattle.step.specs.Machine.{afterOf}
-use Rattle.step.specs.Turns.{cycled}
+use Rattle.step.specs.inner.Machine.{afterOf}
+use Rattle.step.specs.inner.Turns.{cycled}
 use borrow.Author.Needs.{needs}
 use Rattle.step.proofs.turns.cycle_on.Statement.{statement}
 use Rattle.step.proofs.turns.cycle_on.Tie as tie

@@ -1,5 +1,5 @@
 use mathlib.Core.Path.{refl}
-use Rattle.step.specs.Turns.{filled}
+use Rattle.step.specs.inner.Turns.{filled}
 use Rattle.step.proofs.turns.fill.Statement.{statement}
 use Rattle.step.proofs.turns.fill.Tie as tie
 

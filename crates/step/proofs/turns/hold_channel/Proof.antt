@@ -6,7 +6,7 @@ use lib.ListN.{length}
 use Rattle.basics.specs.Limits.{clockLimit}
 use Rattle.act.specs.Cycle.{isKept}
 use Rattle.step.specs.Step.{Roomy}
-use Rattle.step.specs.Turns.{Held, held}
+use Rattle.step.specs.inner.Turns.{Held, held}
 use Rattle.step.specs.declared.turns.Tenure.{Tenure}
 use Rattle.step.proofs.PlanLaws.{carry-room}
 use Rattle.step.proofs.HeldLaws.{held-full, held-ends, held-on, kept-some, roomy-on, cycled-facts}

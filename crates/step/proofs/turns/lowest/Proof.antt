@@ -1,7 +1,7 @@
 use native.Mathlib.Omega.{arith}
 use Prim.Native.Nat.{_-_, _≤_}
 use Rattle.basics.specs.Limits.{systemMaster}
-use Rattle.step.specs.Machine.{NoneAsk}
+use Rattle.step.specs.inner.Machine.{NoneAsk}
 use Rattle.step.proofs.SearchLaws.{none-more}
 use Rattle.step.proofs.turns.lowest.Statement.{statement}
 use Rattle.step.proofs.turns.lowest.Tie as tie

@@ -3,8 +3,8 @@ use native.Mathlib.Omega.{arith}
 use Prim.Native.Nat.{_-_, _≤_}
 use lib.ListN.{length, length-set}
 use Rattle.basics.specs.Limits.{places}
-use Rattle.sound.specs.Tables.{requestAt}
-use Rattle.step.specs.Turns.{ArePaths}
+use Rattle.sound.specs.inner.Tables.{requestAt}
+use Rattle.step.specs.inner.Turns.{ArePaths}
 use Rattle.step.proofs.PathLaws.{path-more, path-none}
 use Rattle.step.proofs.turns.paths_of.Statement.{statement}
 use Rattle.step.proofs.turns.paths_of.Tie as tie

@@ -6,7 +6,7 @@ use lib.Dec.{ltb}
 use Rattle.basics.proofs.Tests.{and-left, and-right}
 use Rattle.frame.specs.declared.Setup.{Setup}
 use Rattle.step.specs.Run.{Out}
-use Rattle.step.specs.Turns.{runningOf, Lows}
+use Rattle.step.specs.inner.Turns.{runningOf, Lows}
 use Rattle.step.proofs.GoingLaws.{
   Going,
   Runs,

@@ -5,7 +5,7 @@ use mathlib.Core.Path.{_≡_, refl, sym, ap, _∙_}
 use borrow.Author.Tests.{ne-eqb, ltb-false}
 use Prim.Native.Nat.{ℕ, _+_}
 use lib.Dec.{ltb}
-use Rattle.step.specs.Turns.{runningOf}
+use Rattle.step.specs.inner.Turns.{runningOf}
 use Rattle.step.proofs.PutLaws.{turn-full, turn-grant, turn-rest, turn-cycles, lows-grant, lows-rest, lows-cycles}
 use borrow.Author.Needs.{needs}
 use Rattle.step.proofs.turns.turn.Statement.{statement}

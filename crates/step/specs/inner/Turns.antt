@@ -34,7 +34,7 @@ use Rattle.step.specs.declared.turns.Tenure.{Tenure}
 use Rattle.step.specs.Step.{Roomy, Room, carryOf, movedSlave, movedMaster}
 use Rattle.step.specs.Run.{World, Out, world, ended, runFrom}
 use Rattle.step.specs.Log.{Page, page, lined, LoggedOut, closed, logFrom}
-use Rattle.step.specs.Machine.{NoneAsk, NoneWait, noPath, channelOf, channelBy, standingOf, decidedOf, decidedMarks, Actable}
+use Rattle.step.specs.inner.Machine.{NoneAsk, NoneWait, noPath, channelOf, channelBy, standingOf, decidedOf, decidedMarks, Actable}
 
 -- all that a run changes: the channel, the tally, the stores, the steps done, and whether the next step would pass the clock's limit
 pub record Running : Type 0 where
