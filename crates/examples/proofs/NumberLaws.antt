@@ -158,7 +158,7 @@ step-number setup ch t slave master =
 
 pub written-told : (s : List ℕ) (at v : ℕ) → writtenNumbers (writtenAt s at v) ≡ writtenTold s at v
 unfolding writtenAt
-written-told s at v = by-test (hasRoom s at v) (λ t. rw t) (λ f. rw f)
+written-told s at v = by-test (hasRoom s at (bytesOf v)) (λ t. rw t) (λ f. rw f)
 
 pub sheet-told : (j : Judged) (need room : ℕ) → sheetNumbers (answered j need room) ≡ sheetTold j need room
 sheet-told (Good end) need room = by-test (leb need room) (λ t. rw t) (λ f. rw f)

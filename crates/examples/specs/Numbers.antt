@@ -93,7 +93,7 @@ logRows setup budget w p =
 
 -- "17: place 0, the lent result is too short"; a number's 17 and its answer otherwise, the place past it
 abbrev pub writtenTold : List ℕ → ℕ → ℕ → List ℕ
-writtenTold s at v = cond (hasRoom s at v) (0 ∷ (at + length (bytesOf v)) ∷ []) (17 ∷ 0 ∷ [])
+writtenTold s at v = cond (hasRoom s at (bytesOf v)) (0 ∷ (at + length (bytesOf v)) ∷ []) (17 ∷ 0 ∷ [])
 
 -- "17 comes last": of a judged sheet the length of the result, or the number and the place of its fault
 abbrev pub sheetTold : Judged → ℕ → ℕ → List ℕ

@@ -55,6 +55,13 @@ fn groups_at(s: &[u8], start: usize, at: usize, left: u8) -> NumberRead
 pub fn read_number(s: &[u8], at: usize) -> NumberRead
     ensures { λ r. ⌜ r ≡ readAt (now (s .entry)) at ⌝ }
 {
+    // most numbers have one byte
+    if at < s.len() {
+        let byte = s[at];
+        if byte < 128 {
+            return NumberRead::Number(byte as u32, at + 1);
+        }
+    }
     groups_at(s, at, at, 4)
 }
 

@@ -1,0 +1,5 @@
+pub mod Laws
+pub mod Moved
+pub mod Runs
+pub mod Parts
+pub mod RoundTrip
