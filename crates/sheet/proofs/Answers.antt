@@ -1,65 +1,52 @@
--- What a call answers and leaves, by what the judge found; and one turn of the loops that count, copy and write.
-use Prim.Native.Nat.{ℕ, suc, _+_, _≤_, _<_}
-use mathlib.Core.Path.{_≡_, sym, ap, _∙_}
-use mathlib.Core.List.{List, [], _∷_, _++_}
-use native.Mathlib.Nat.{add-zero}
-use native.Mathlib.Numerals.{add-one}
+-- What a call answers and leaves, by what the judge found, and by whether the result was written. Assumes nothing.
+use Prim.Native.Nat.{ℕ, _+_, _≤_, _<_}
+use mathlib.Core.Path.{_≡_, refl, sym, ap, _∙_}
+use mathlib.Core.List.{List}
+use native.Mathlib.Nat.{zero-add}
 use native.Mathlib.Omega.{arith}
-use borrow.Author.Tests.{le-leb, lt-leb}
-use lib.ListN.{length, getD, drop, set, drop-of-length-le, length-append}
-use lib.Seq.{sets, drop-cons}
+use borrow.Author.Tests.{le-leb, lt-leb, leb-true, leb-false}
+use lib.Dec.{leb}
+use lib.ListN.{length}
+use lib.Seq.{sets}
+use Rattle.basics.proofs.Tests.{by-test}
 use Rattle.refusal.specs.declared.Refusal.{Refusal}
 use Rattle.refusal.specs.declared.Refusal.the-variants.{NoRoom}
 use Rattle.number.specs.declared.NumberWritten.the-variants.{Past, Refused as NotWritten}
-use Rattle.number.specs.Number.{bytesOf}
-use Rattle.sheet.specs.declared.Judged.{Judged}
-use Rattle.sheet.specs.declared.Judged.the-variants.{Good, Fault}
+use Rattle.number.specs.Number.{wholeAt, wholeAfter}
+use Rattle.number.proofs.Laws.{whole, not-whole}
+use Rattle.numbers.specs.declared.Part.{Part}
+use Rattle.numbers.specs.declared.Part.the-variants.{Good, Fault}
+use Rattle.numbers.proofs.Laws.{past-is, no-room}
 use Rattle.sheet.specs.declared.SheetAnswer.the-variants.{Done, Refused}
-use Rattle.sheet.specs.Sheet.{answered, stored, allBytes}
+use Rattle.sheet.specs.Sheet.{answered, stored}
 
-module _ (judged : Judged) (result out : List ℕ) where
+module _ (judged : Part) (result out : List ℕ) where
   pub answer-fault : {why : Refusal} {p : ℕ} → judged ≡ Fault why p
       → (Refused why p ≡ answered judged (length result) (length out)) ×
       (out ≡ stored (answered judged (length result) (length out)) result out)
   answer-fault j = (rw j, rw j)
 
-  -- `need` is the result's length, and `left` what the lent slice holds at the end
-  module _ {end need : ℕ} (j : judged ≡ Good end) (n : need ≡ length result) where
-    pub answer-done : {left : List ℕ} → need ≤ length out → left ≡ sets out 0 result
-        → (Done need ≡ answered judged (length result) (length out)) ×
+  -- `left` is what the lent slice holds at the end
+  module _ {end : ℕ} (j : judged ≡ Good end) {left : List ℕ} (l : left ≡ wholeAfter out 0 result) where
+    pub answer-done : {n : ℕ} → wholeAt out 0 result ≡ Past n
+        → (Done n ≡ answered judged (length result) (length out)) ×
         (left ≡ stored (answered judged (length result) (length out)) result out)
-    answer-done h e = let t = le-leb need (length out) h in (rw (j, ← n, t), rw (j, ← n, t) e)
+    answer-done {n} e =
+        by-test (leb (length result) (length out))
+        (λ t.
+        let w = whole out 0 result (omega (arith, leb-true (length result) (length out) t)) in
+        let size : length result ≡ n = sym (zero-add (length result)) ∙ past-is (sym (w .0) ∙ e) in
+        (rw (j, t) (ap Done (sym size)), rw (j, t) (l ∙ w .1)))
+        (λ f. no-room (sym (not-whole out 0 result (omega (arith, leb-false (length result) (length out) f)) .0) ∙ e))
 
-    pub answer-short : length out < need
-        → (Refused NoRoom 0 ≡ answered judged (length result) (length out)) ×
-        (out ≡ stored (answered judged (length result) (length out)) result out)
-    answer-short h = let t = lt-leb need (length out) h in (rw (j, ← n, t), rw (j, ← n, t))
-
--- the bytes of a list from an index on
-pub bytes-none : (list : List ℕ) (i : ℕ) → length list ≤ i → allBytes (drop i list) ≡ []
-bytes-none list i h = rw (drop-of-length-le list h)
-
-pub bytes-on : (list : List ℕ) (i : ℕ) → i < length list → allBytes (drop i list) ≡ bytesOf (getD list i 0) ++ allBytes (drop (i + 1) list)
-bytes-on list i h = rw (drop-cons list i 0, add-one)
-
-pub size-on : (list : List ℕ) (i : ℕ) → i < length list
-    → length (allBytes (drop i list)) ≡ length (bytesOf (getD list i 0)) + length (allBytes (drop (i + 1) list))
-size-on list i h = rw (bytes-on list i h) (length-append (bytesOf (getD list i 0)) (allBytes (drop (i + 1) list)))
-
-sets-append : (a b out : List ℕ) (i : ℕ) → sets out i (a ++ b) ≡ sets (sets out i a) (i + length a) b
-sets-append [] b out i = rw add-zero
-sets-append (x ∷ a) b out i =
-    sets-append a b (set out i x) (suc i) ∙ ap (λ (k : ℕ). sets (sets (set out i x) (suc i) a) k b) (omega arith)
-
--- a number's bytes are written, and the others' after them
-pub written-on : (list : List ℕ) (i at : ℕ) (out : List ℕ) → i < length list
-    → sets (sets out at (bytesOf (getD list i 0))) (at + length (bytesOf (getD list i 0))) (allBytes (drop (i + 1) list))
-    ≡ sets out at (allBytes (drop i list))
-written-on list i at out h = rw (bytes-on list i h) (sym (sets-append (bytesOf (getD list i 0)) (allBytes (drop (i + 1) list)) out at))
-
--- a write with room for it says where it ends
-pub past-is : {a b : ℕ} → Past a ≡ Past b → a ≡ b
-past-is q = cc
-
-pub no-room : {A : Type 0} {why : Refusal} {a : ℕ} → NotWritten why ≡ Past a → A
-no-room q = let z : _≡_ {A = ℕ} 0 1 = cc in absurd (omega arith)
+    pub answer-short : {why : Refusal} → wholeAt out 0 result ≡ NotWritten why
+        → (Refused why 0 ≡ answered judged (length result) (length out)) ×
+        (left ≡ stored (answered judged (length result) (length out)) result out)
+    answer-short {why} e =
+        by-test (leb (length result) (length out))
+        (λ t. no-room (sym e ∙ whole out 0 result (omega (arith, leb-true (length result) (length out) t)) .0))
+        (λ f.
+        let w = not-whole out 0 result (omega (arith, leb-false (length result) (length out) f)) in
+        let q : NotWritten why ≡ NotWritten NoRoom = sym e ∙ w .0 in
+        let same : why ≡ NoRoom = cc in
+        (rw (j, f, same), rw (j, f) (l ∙ w .1)))

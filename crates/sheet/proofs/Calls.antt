@@ -17,32 +17,22 @@ use Rattle.number.specs.Number.{readAt, Bytes}
 use Rattle.number.specs.declared.NumberRead.{NumberRead}
 use Rattle.number.specs.declared.NumberRead.the-variants.{Number, Refused as NoNumber}
 use Rattle.number.proofs.RoundTrip.{written-back}
-use Rattle.sheet.specs.declared.Judged.{Judged}
-use Rattle.sheet.specs.declared.Judged.the-variants.{Good, Fault}
+use Rattle.numbers.specs.declared.Part.{Part}
+use Rattle.numbers.specs.declared.Part.the-variants.{Good, Fault}
 use Rattle.sheet.specs.declared.SheetAnswer.the-variants.{Done, Refused}
-use Rattle.sheet.specs.Sheet.{
-  listAt,
-  followed,
-  numbers,
-  sheet,
-  numbersOf,
-  allBytes,
-  answered,
-  stored,
-  readAnswer,
-  readStored,
-  writeAnswer,
-  writeStored,
-}
+use Rattle.sheet.specs.Sheet.{sheet, answered, stored, readAnswer, readStored, writeAnswer, writeStored}
+use Rattle.numbers.specs.Numbers.{listAt, numbersOf, allBytes}
+use Rattle.numbers.proofs.Moved.{movedTo}
+use Rattle.numbers.proofs.Parts.{no-good}
+use Rattle.numbers.proofs.Runs.{Tells}
+use Rattle.numbers.proofs.Runs.Tells.{fault}
+use Rattle.numbers.proofs.RoundTrip.{Numbers, place, numbers-fit, list-back}
 use Rattle.number.proofs.Laws.{no-number}
-use Rattle.sheet.proofs.Parts.{no-good}
-use Rattle.sheet.proofs.Moved.{movedTo}
-use Rattle.sheet.proofs.Runs.{Tells, sheet-tells}
-use Rattle.sheet.proofs.Runs.Tells.{fault}
-use Rattle.sheet.proofs.RoundTrip.{Numbers, place, judged-alike, list-back, bytes-back}
+use Rattle.sheet.proofs.Runs.{sheet-tells}
+use Rattle.sheet.proofs.RoundTrip.{judged-alike, bytes-back}
 
 -- a result was stored: the judgement is good, there is room, and the slice holds the result before what it held there
-pub record Success (judged : Judged) (result out : List ℕ) (n : ℕ) : Type 0 where
+pub record Success (judged : Part) (result out : List ℕ) (n : ℕ) : Type 0 where
   pub end : ℕ
   pub is-good : judged ≡ Good end
   pub size : n ≡ length result
@@ -58,7 +48,7 @@ not-done e = let z : _≡_ {A = ℕ} 0 1 = cc in absurd (omega arith)
 refused-one : {why other : Refusal} {p q : ℕ} → Refused why p ≡ Refused other q → why ≡ other
 refused-one e = cc
 
-success : (judged : Judged) (result out : List ℕ) {n : ℕ} → answered judged (length result) (length out) ≡ Done n
+success : (judged : Part) (result out : List ℕ) {n : ℕ} → answered judged (length result) (length out) ≡ Done n
     → Success judged result out n
 success (Fault why p) result out e = not-done e
 success (Good end) result out {n} e =
@@ -79,7 +69,7 @@ success (Good end) result out {n} e =
     (λ f. let q : Refused NoRoom 0 ≡ Done n = rw f at e in not-done q)
 
 -- a result that is good and has room is stored
-stores : (judged : Judged) (result out : List ℕ) {end : ℕ} → judged ≡ Good end → length result ≤ length out
+stores : (judged : Part) (result out : List ℕ) {end : ℕ} → judged ≡ Good end → length result ≤ length out
     → answered judged (length result) (length out) ≡ Done (length result)
 stores judged result out g h = rw (g, le-leb (length result) (length out) h)
 
@@ -105,20 +95,8 @@ module _ (list out : List ℕ) where
   unfolding writeStored
   write-refused e = rw e
 
--- the numbers of bytes fit
-followed-fit : (got : NumberRead) (f : ℕ → List ℕ) → ((v next : ℕ) → got ≡ Number v next → v < 4294967296)
-    → ((next : ℕ) → Numbers (f next)) → Numbers (followed got f)
-followed-fit (Number v next) f h k zero = h v next refl
-followed-fit (Number v next) f h k (suc i) = k next i
-followed-fit (NoNumber why p) f h k i = omega arith
-
-numbers-fit : (bytes : List ℕ) → Bytes bytes → (n at : ℕ) → Numbers (numbers (readAt bytes) n at)
-numbers-fit bytes y zero at = λ i. omega arith
-numbers-fit bytes y (suc n) at =
-    followed-fit (readAt bytes at) (numbers (readAt bytes) n) (λ v next e. written-back bytes at y e .fits) (numbers-fit bytes y n)
-
 -- a judgement that is good where it was moved to is good
-moved-good : (to : ℕ → ℕ) (j : Judged) {end : ℕ} → movedTo to j ≡ Good end → (mid : ℕ) × (j ≡ Good mid)
+moved-good : (to : ℕ → ℕ) (j : Part) {end : ℕ} → movedTo to j ≡ Good end → (mid : ℕ) × (j ≡ Good mid)
 moved-good to (Good mid) e = (mid, refl)
 moved-good to (Fault why p) e = no-good e
 
@@ -211,7 +189,7 @@ pub write-eleven : (list : List ℕ) (room : ℕ) {why : Refusal} {p : ℕ} → 
 unfolding writeAnswer
 write-eleven list room {why} {p} e q = go (sheet (listAt list) (length list)) (sheet-tells (listAt list) (length list)) e
   where
-    go : (j : Judged) → Tells (listAt list) 7300 0 j → answered j (length (allBytes list)) room ≡ Refused why p → ⊥
+    go : (j : Part) → Tells (listAt list) 7300 0 j → answered j (length (allBytes list)) room ≡ Refused why p → ⊥
     go (Fault other place) t r = never-eleven list t (ap numberOf (refused-one r) ∙ q)
     go (Good end) t r =
         by-test (leb (length (allBytes list)) room)

@@ -26,16 +26,15 @@ use Rattle.refusal.specs.Refusal.{numberOf}
 use Rattle.number.specs.Number.{readAt, bytesOf}
 use Rattle.sheet.specs.declared.SheetAnswer.{SheetAnswer}
 use Rattle.sheet.specs.declared.SheetAnswer.the-variants.{Done, Refused}
+use Rattle.numbers.specs.Numbers.{listAt, numberBetween, numbersOf}
 use Rattle.sheet.specs.Sheet.{
-  listAt,
-  between,
-  counted,
+  countedRows,
+  head,
   stepCount,
   event,
   countedEvents,
   body,
   sheet,
-  numbersOf,
   readAnswer,
   readStored,
   writeAnswer,
@@ -135,7 +134,7 @@ allHold (e ∷ es) = holds e && allHold es
 
 examples : allHold table ≡ true
 unfolding allHold table holds same saysDone saysRefused levelPart rows small smallList
-    readAnswer readStored writeAnswer writeStored numbersOf sheet body counted countedEvents event stepCount between listAt readAt bytesOf
+    readAnswer readStored writeAnswer writeStored numbersOf sheet body head countedRows countedEvents event stepCount numberBetween listAt readAt bytesOf
     levelInRange isRising isLastFifteen levelRowFits isTime limitOf isPlaced slaveInRange areApart isApart lengthsBefore slaveRowFits
     isWidth isPort allBelow
 examples = refl

@@ -10,109 +10,82 @@ use Rattle.refusal.specs.declared.Refusal.{Refusal}
 use Rattle.refusal.specs.declared.Refusal.the-variants.{BadEdition, BadEvents, Follows}
 use Rattle.number.specs.declared.NumberRead.{NumberRead}
 use Rattle.number.specs.declared.NumberRead.the-variants.{Number, Refused as NoNumber}
-use Rattle.sheet.specs.declared.Judged.{Judged}
-use Rattle.sheet.specs.declared.Judged.the-variants.{Good, Fault}
+use Rattle.numbers.specs.declared.Part.{Part}
+use Rattle.numbers.specs.declared.Part.the-variants.{Good, Fault}
+use Rattle.numbers.specs.Numbers.{Source, withNumber, numberBetween, passed, numbers}
+use Rattle.numbers.proofs.Moved.{moved, movedTo, cond-moved, with-moved, then-moved, range-moved, between-moved, ranged-moved, passed-moved, numbers-moved}
+use Rattle.frame.specs.declared.Setup.{Setup}
+use Rattle.frame.specs.declared.RowKind.{RowKind}
+use Rattle.frame.specs.declared.RowKind.the-variants.{Levels, Slaves}
+use Rattle.frame.specs.Kind.{rowSize, badRows, noRows, withCount, putRow, rowFits}
+use Rattle.sheet.specs.declared.RowsRead.{RowsRead}
 use Rattle.sheet.specs.Sheet.{
-  Source,
-  withNumber,
-  andThen,
-  inRange,
-  between,
-  past,
-  followed,
-  numbers,
-  Rows,
-  levels,
-  slaves,
+  rowsRead,
+  thenRows,
+  withRows,
   rowsFrom,
-  counted,
+  countedRows,
+  head,
   stepCount,
   event,
   events,
   countedEvents,
-  ended,
+  sheetEnd,
   body,
   sheet,
 }
 
--- a number, and a judgement, with its place moved
-abbrev pub moved : (ℕ → ℕ) → NumberRead → NumberRead
-moved to (Number v next) = Number v (to next)
-moved to (NoNumber why place) = NoNumber why (to place)
-
-abbrev pub movedTo : (ℕ → ℕ) → Judged → Judged
-movedTo to (Good at) = Good (to at)
-movedTo to (Fault why place) = Fault why (to place)
+-- rows that were read, with their place moved
+abbrev rowsMoved : (ℕ → ℕ) → RowsRead → RowsRead
+rowsMoved to r = rowsRead (r .setup) (movedTo to (r .part))
 
 module _ (to : ℕ → ℕ) where
-  cond-moved : (b : Bool) (x y : Judged) {x′ y′ : Judged} → x′ ≡ movedTo to x → y′ ≡ movedTo to y → cond b x′ y′ ≡ movedTo to (cond b x y)
-  cond-moved true x y p q = p
-  cond-moved false x y p q = q
+  cond-rows : (b : Bool) (x y : RowsRead) {x′ y′ : RowsRead} → x′ ≡ rowsMoved to x → y′ ≡ rowsMoved to y → cond b x′ y′ ≡ rowsMoved to (cond b x y)
+  cond-rows true x y p q = p
+  cond-rows false x y p q = q
 
-  with-moved : (got : NumberRead) (f g : ℕ → ℕ → Judged) → ((v next : ℕ) → f v (to next) ≡ movedTo to (g v next))
-      → withNumber (moved to got) f ≡ movedTo to (withNumber got g)
-  with-moved (Number v next) f g h = h v next
-  with-moved (NoNumber why p) f g h = refl
+  then-rows : (j : Part) (setup : Setup) (f g : ℕ → RowsRead) → ((at : ℕ) → f (to at) ≡ rowsMoved to (g at))
+      → thenRows (movedTo to j) setup f ≡ rowsMoved to (thenRows j setup g)
+  then-rows (Good at) setup f g h = h at
+  then-rows (Fault why p) setup f g h = refl
 
-  then-moved : (j : Judged) (f g : ℕ → Judged) → ((at : ℕ) → f (to at) ≡ movedTo to (g at))
-      → andThen (movedTo to j) f ≡ movedTo to (andThen j g)
-  then-moved (Good at) f g h = h at
-  then-moved (Fault why p) f g h = refl
-
-  followed-moved : (got : NumberRead) (f g : ℕ → List ℕ) → ((next : ℕ) → f (to next) ≡ g next) → followed (moved to got) f ≡ followed got g
-  followed-moved (Number v next) f g h = ap (λ (x : List ℕ). v ∷ x) (h next)
-  followed-moved (NoNumber why p) f g h = refl
-
-  range-moved : (low high : ℕ) (why : Refusal) (at : ℕ) (got : NumberRead)
-      → inRange low high why (to at) (moved to got) ≡ moved to (inRange low high why at got)
-  range-moved low high why at (NoNumber other p) = refl
-  range-moved low high why at (Number v next) = pick (leb low v && leb v high)
-    where
-      pick : (b : Bool) → cond b (Number v (to next)) (NoNumber why (to at)) ≡ moved to (cond b (Number v next) (NoNumber why at))
-      pick true = refl
-      pick false = refl
+  with-rows : (got : NumberRead) (setup : Setup) (f g : ℕ → ℕ → RowsRead) → ((v next : ℕ) → f v (to next) ≡ rowsMoved to (g v next))
+      → withRows (moved to got) setup f ≡ rowsMoved to (withRows got setup g)
+  with-rows (Number v next) setup f g h = h v next
+  with-rows (NoNumber why p) setup f g h = refl
 
 -- the source `a` has at the place `to i` what the source `b` has at i
 module _ (a b : Source) (to : ℕ → ℕ) (same : (i : ℕ) → a (to i) ≡ moved to (b i)) where
-  between-moved : (low high : ℕ) (why : Refusal) (at : ℕ) → between a low high why (to at) ≡ moved to (between b low high why at)
-  unfolding between
-  between-moved low high why at = rw (same at) (range-moved to low high why at (b at))
+  rows-moved : (kind : RowKind) (left i : ℕ) (setup : Setup) (at : ℕ)
+      → rowsFrom kind a left i setup (to at) ≡ rowsMoved to (rowsFrom kind b left i setup at)
+  rows-moved kind zero i setup at = refl
+  rows-moved kind (suc left) i setup at =
+      let more = putRow setup kind i (numbers b (rowSize kind) at) in
+      rw (passed-moved a b to same (rowSize kind) at, numbers-moved a b to same (rowSize kind) at)
+      (then-rows to (passed b (rowSize kind) at) setup _ _ (λ next. cond-rows to (rowFits more kind i) (rowsFrom kind b left (i + 1) more next)
+      (rowsRead more (Fault (badRows kind) at)) (rows-moved kind left (i + 1) more next) refl))
 
-  -- a part that begins with a number in range
-  ranged-moved : (low high : ℕ) (why : Refusal) (at : ℕ) (f g : ℕ → ℕ → Judged) → ((v next : ℕ) → f v (to next) ≡ movedTo to (g v next))
-      → withNumber (between a low high why (to at)) f ≡ movedTo to (withNumber (between b low high why at) g)
-  ranged-moved low high why at f g h = rw (between-moved low high why at) (with-moved to (between b low high why at) f g h)
+  counted-moved : (kind : RowKind) (setup : Setup) (at : ℕ) → countedRows kind a setup (to at) ≡ rowsMoved to (countedRows kind b setup at)
+  unfolding countedRows
+  counted-moved kind setup at =
+      rw (between-moved a b to same 1 rowsMost (badRows kind) at)
+      (with-rows to (numberBetween b 1 rowsMost (badRows kind) at) setup _ _ (λ n next. rows-moved kind n 0 (withCount setup kind n) next))
 
-  past-moved : (n at : ℕ) → past a n (to at) ≡ movedTo to (past b n at)
-  past-moved zero at = refl
-  past-moved (suc n) at = rw (same at) (with-moved to (b at) (λ v next. past a n next) (λ v next. past b n next)
-      (λ v next. past-moved n next))
-
-  pub numbers-moved : (n at : ℕ) → numbers a n (to at) ≡ numbers b n at
-  numbers-moved zero at = refl
-  numbers-moved (suc n) at = rw (same at) (followed-moved to (b at) (numbers a n) (numbers b n) (numbers-moved n))
-
-  rows-moved : (kind : Rows) (left i : ℕ) (table : kind .Table) (at : ℕ)
-      → rowsFrom kind a left i table (to at) ≡ movedTo to (rowsFrom kind b left i table at)
-  rows-moved kind zero i table at = refl
-  rows-moved kind (suc left) i table at =
-      let more = kind .put table i (numbers b (kind .size) at) in
-      rw (past-moved (kind .size) at, numbers-moved (kind .size) at)
-      (then-moved to (past b (kind .size) at) _ _ (λ next. cond-moved to (kind .fits more i) (rowsFrom kind b left (i + 1) more next)
-      (Fault (kind .why) at) (rows-moved kind left (i + 1) more next) refl))
-
-  counted-moved : (kind : Rows) (at : ℕ) → counted kind a (to at) ≡ movedTo to (counted kind b at)
-  unfolding counted
-  counted-moved kind at = ranged-moved 1 rowsMost (kind .why) at _ _ (λ n next. rows-moved kind n 0 (kind .none n) next)
+  pub head-moved : (at : ℕ) → head a (to at) ≡ rowsMoved to (head b at)
+  unfolding head
+  head-moved at =
+      rw (counted-moved Levels noRows at)
+      (then-rows to (countedRows Levels b noRows at .part) (countedRows Levels b noRows at .setup) _ _
+      (λ second. counted-moved Slaves (countedRows Levels b noRows at .setup) second))
 
   steps-moved : (at : ℕ) → stepCount a (to at) ≡ movedTo to (stepCount b at)
   unfolding stepCount
-  steps-moved at = ranged-moved 1 stepsMost BadEvents at _ _ (λ n next. refl)
+  steps-moved at = ranged-moved a b to same 1 stepsMost BadEvents at _ _ (λ n next. refl)
 
   event-moved : (at : ℕ) → event a (to at) ≡ movedTo to (event b at)
   unfolding event
-  event-moved at = ranged-moved 0 1 BadEvents at _ _ (λ kind next. cond-moved to (eqb kind 0) (stepCount b next) (past b 6 next)
-      (steps-moved next) (past-moved 6 next))
+  event-moved at = ranged-moved a b to same 0 1 BadEvents at _ _ (λ kind next. cond-moved to (eqb kind 0) (stepCount b next) (passed b 6 next)
+      (steps-moved next) (passed-moved a b to same 6 next))
 
   events-moved : (n at : ℕ) → events a n (to at) ≡ movedTo to (events b n at)
   events-moved zero at = refl
@@ -120,24 +93,22 @@ module _ (a b : Source) (to : ℕ → ℕ) (same : (i : ℕ) → a (to i) ≡ mo
 
   counted-events-moved : (at : ℕ) → countedEvents a (to at) ≡ movedTo to (countedEvents b at)
   unfolding countedEvents
-  counted-events-moved at = ranged-moved 0 eventsMost BadEvents at _ _ (λ n next. events-moved n next)
+  counted-events-moved at = ranged-moved a b to same 0 eventsMost BadEvents at _ _ (λ n next. events-moved n next)
 
   -- the two sheets begin together and end together
   module _ (la lb : ℕ) (ends : (i : ℕ) → ltb (to i) la ≡ ltb i lb) where
-    ended-moved : (at : ℕ) → ended la (to at) ≡ movedTo to (ended lb at)
+    ended-moved : (at : ℕ) → sheetEnd la (to at) ≡ movedTo to (sheetEnd lb at)
     ended-moved at = rw (ends at) (cond-moved to (ltb at lb) (Fault Follows at) (Good at) refl refl)
 
     body-moved : (at : ℕ) → body a la (to at) ≡ movedTo to (body b lb at)
     unfolding body
     body-moved at =
-        rw (counted-moved levels at)
-        (then-moved to (counted levels b at) _ _ (λ second.
-        rw (counted-moved slaves second)
-        (then-moved to (counted slaves b second) _ _ (λ third.
-        rw (counted-events-moved third) (then-moved to (countedEvents b third) (ended la) (ended lb) ended-moved)))))
+        rw (head-moved at)
+        (then-moved to (head b at .part) _ _ (λ third.
+        rw (counted-events-moved third) (then-moved to (countedEvents b third) (sheetEnd la) (sheetEnd lb) ended-moved)))
 
     pub sheet-moved : to 0 ≡ 0 → sheet a la ≡ movedTo to (sheet b lb)
     unfolding sheet
     sheet-moved starts =
-        ap (λ (i : ℕ). withNumber (between a 1 1 BadEdition i) (λ edition first. body a la first)) (sym starts)
-        ∙ ranged-moved 1 1 BadEdition 0 _ _ (λ edition first. body-moved first)
+        ap (λ (i : ℕ). withNumber (numberBetween a 1 1 BadEdition i) (λ edition first. body a la first)) (sym starts)
+        ∙ ranged-moved a b to same 1 1 BadEdition 0 _ _ (λ edition first. body-moved first)

@@ -1,150 +1,28 @@
 -- The round trips of a sheet, and what a judgement says of bytes and of a list. Assumes nothing.
-use Prim.Native.Nat.{ℕ, zero, suc, _+_, _≤_, _<_}
-use mathlib.Core.Path.{_≡_, refl, sym, ap, _∙_}
-use mathlib.Core.List.{List, [], _∷_, _++_, append-assoc, append-nil}
-use native.Mathlib.Numerals.{add-one}
-use native.Mathlib.Omega.{arith}
-use borrow.Author.Tests.{lt-ltb, le-ltb, ltb-true, ltb-false}
-use lib.ListN.{length, getD, drop, take, length-append, take-append-drop, drop-of-length-le}
-use lib.Seq.{drop-cons, take-suc, take-all}
-use lib.Dec.{ltb}
-use Rattle.basics.proofs.Tests.{by-test}
-use Rattle.refusal.specs.declared.Refusal.{Refusal}
-use Rattle.number.specs.Number.{bytesOf, readAt, Bytes}
-use Rattle.number.specs.declared.NumberRead.the-variants.{Refused as NoNumber}
-use Rattle.number.proofs.RoundTrip.{read-appended, written-back}
-use Rattle.number.proofs.Laws.{bytes-some, read-end, read-within}
-use Rattle.sheet.specs.declared.Judged.the-variants.{Good}
-use Rattle.sheet.specs.Sheet.{Source, listAt, numbers, sheet, numbersOf, allBytes}
-use Rattle.sheet.proofs.Laws.{numbers-end, numbers-most, stands}
-use Rattle.sheet.proofs.Answers.{bytes-on, size-on}
-use Rattle.sheet.proofs.Moved.{moved, movedTo, numbers-moved, sheet-moved}
+use Prim.Native.Nat.{ℕ, _≤_}
+use mathlib.Core.Path.{_≡_, refl}
+use mathlib.Core.List.{List}
+use lib.ListN.{length}
+use Rattle.number.specs.Number.{readAt, Bytes}
+use Rattle.numbers.specs.declared.Part.the-variants.{Good}
+use Rattle.numbers.specs.Numbers.{listAt, numbersOf, allBytes}
+use Rattle.numbers.proofs.Moved.{movedTo}
+use Rattle.numbers.proofs.RoundTrip.{Numbers, place, same-number, same-end, told, listed}
+use Rattle.sheet.specs.Sheet.{sheet}
+use Rattle.sheet.proofs.Moved.{sheet-moved}
 use Rattle.sheet.proofs.Parts.{sheet-parts}
-use Rattle.sheet.proofs.Runs.{Run, Tells, sheet-tells}
-use Rattle.sheet.proofs.Runs.Run.{none, more}
-use Rattle.sheet.proofs.Runs.Tells.{good}
+use Rattle.sheet.proofs.Runs.{sheet-tells}
 
--- a list of numbers up to 4,294,967,295, as the elements of a slice are
-abbrev pub Numbers : List ℕ → Type 0
-Numbers list = (i : ℕ) → getD list i 0 < 4294967296
-
--- the place in its bytes of a list's number
-unfoldable pub place : List ℕ → ℕ → ℕ
-place list i = length (allBytes (take i list))
-
-all-append : (x y : List ℕ) → allBytes (x ++ y) ≡ allBytes x ++ allBytes y
-all-append [] y = refl
-all-append (v ∷ x) y = rw (all-append x y) (sym (append-assoc (bytesOf v) (allBytes x) (allBytes y)))
-
-split : (list : List ℕ) (i : ℕ) → allBytes list ≡ allBytes (take i list) ++ allBytes (drop i list)
-split list i = sym (ap allBytes (take-append-drop i list)) ∙ all-append (take i list) (drop i list)
-
-pub place-on : (list : List ℕ) (i : ℕ) → i < length list → place list (i + 1) ≡ place list i + length (bytesOf (getD list i 0))
+-- Reader and writer judge alike: the bytes of a list get the list's judgement, at the place of the number at its index.
+pub judged-alike : (list : List ℕ) → Numbers list
+    → sheet (readAt (allBytes list)) (length (allBytes list)) ≡ movedTo (place list) (sheet (listAt list) (length list))
 unfolding place
-place-on list i h = rw (add-one i, take-suc list i 0 h, all-append, length-append, append-nil)
+judged-alike list fit =
+    sheet-moved (readAt (allBytes list)) (listAt list) (place list) (same-number list fit) (length (allBytes list)) (length list) (same-end list) refl
 
-pub place-end : (list : List ℕ) (i : ℕ) → length list ≤ i → place list i ≡ length (allBytes list)
-unfolding place
-place-end list i h = rw (take-all i list h)
-
--- at the place of a list's number its bytes have that number, and their end is the list's
-module _ (list : List ℕ) where
-  same-number : Numbers list → (i : ℕ) → readAt (allBytes list) (place list i) ≡ moved (place list) (listAt list i)
-  unfolding listAt place
-  same-number fit i =
-      by-test (ltb i (length list))
-      (λ t.
-      let h = ltb-true i (length list) t in
-      rw (t, split list i, bytes-on list i h, place-on list i h)
-      (read-appended (allBytes (take i list)) (allBytes (drop (i + 1) list)) (getD list i 0) (fit i)))
-      (λ f.
-      let h = ltb-false i (length list) f in
-      rw (f, place-end list i h) (read-end (allBytes list) (length (allBytes list)) (omega arith)))
-
-  same-end : (i : ℕ) → ltb (place list i) (length (allBytes list)) ≡ ltb i (length list)
-  unfolding place
-  same-end i =
-      by-test (ltb i (length list))
-      (λ t.
-      let h = ltb-true i (length list) t in
-      let all = simp length-append at (ap length (split list i)) in
-      lt-ltb (place list i) (length (allBytes list)) (omega (arith, all, size-on list i h, bytes-some (getD list i 0))) ∙ sym t)
-      (λ f. le-ltb (place list i) (length (allBytes list)) (omega (arith, place-end list i (ltb-false i (length list) f))) ∙ sym f)
-
-  -- Reader and writer judge alike: the bytes of a list get the list's judgement, at the place of the number at its index.
-  pub judged-alike : Numbers list
-      → sheet (readAt (allBytes list)) (length (allBytes list)) ≡ movedTo (place list) (sheet (listAt list) (length list))
-  unfolding place
-  judged-alike fit =
-      sheet-moved (readAt (allBytes list)) (listAt list) (place list) (same-number fit) (length (allBytes list)) (length list) same-end refl
-
--- a list's numbers, read from an index on
-numbers-listed : (list : List ℕ) (n i : ℕ) → length list ≤ i + n → numbers (listAt list) n i ≡ drop i list
-unfolding listAt
-numbers-listed list zero i h = let past : length list ≤ i = omega arith in sym (drop-of-length-le list past)
-numbers-listed list (suc n) i h =
-    by-test (ltb i (length list))
-    (λ t.
-    rw (t, drop-cons list i 0 (ltb-true i (length list) t))
-    (ap (λ (x : List ℕ). getD list i 0 ∷ x) (numbers-listed list n (i + 1) (omega arith) ∙ ap (λ (j : ℕ). drop j list) (add-one i))))
-    (λ f. rw f (sym (drop-of-length-le list (ltb-false i (length list) f))))
-
--- each number has a byte or more
-bytes-many : (list : List ℕ) → length list ≤ length (allBytes list)
-bytes-many [] = omega arith
-bytes-many (v ∷ list) = simp length-append (omega (arith, bytes-some v, bytes-many list))
-
--- The bytes of a list are read as that list.
-pub list-back : (list : List ℕ) → Numbers list → numbersOf (allBytes list) ≡ list
-unfolding numbersOf place
-list-back list fit =
-    let n = length (allBytes list) in
-    numbers-moved (readAt (allBytes list)) (listAt list) (place list) (same-number list fit) n 0
-    ∙ numbers-listed list n 0 (omega (arith, bytes-many list))
-
--- a run that ends where no number stands has all the numbers there are
-run-all : (src : Source) (m : ℕ) {n at end : ℕ} {why : Refusal} {p : ℕ} → Run src n at end → src end ≡ NoNumber why p → n ≤ m
-    → numbers src m at ≡ numbers src n at
-run-all src m none r h = numbers-end src m _ r
-run-all src zero (more e s) r h = absurd (omega arith)
-run-all src (suc m) (more {v = v} e s) r h = rw e (ap (λ (x : List ℕ). v ∷ x) (run-all src m s r (omega arith)))
-
--- the bytes of a run's numbers are the bytes that it ran over
-module _ (s : List ℕ) (bytes : Bytes s) where
-  run-within : {n at end : ℕ} → Run (readAt s) n at end → at ≤ length s → (at + n ≤ end) × (end ≤ length s)
-  run-within none h = (omega arith, h)
-  run-within (more {at = at} e r) h = let w = read-within s at e in let t = run-within r (w .1) in (omega arith, t .1)
-
-  run-bytes : {n at end : ℕ} → Run (readAt s) n at end → drop at s ≡ allBytes (numbers (readAt s) n at) ++ drop end s
-  run-bytes none = refl
-  run-bytes (more {n = n} {at = at} {v = v} {next = next} {end = end} e r) =
-      rw e
-      (written-back s at bytes e .form
-      ∙ ap (λ (x : List ℕ). bytesOf v ++ x) (run-bytes r)
-      ∙ sym (append-assoc (bytesOf v) (allBytes (numbers (readAt s) n next)) (drop end s)))
-
-  told : {m end : ℕ} → Tells (readAt s) m 0 (Good end) → length s ≤ end → (length (numbersOf s) ≤ m) × (allBytes (numbersOf s) ≡ s)
-  unfolding numbersOf
-  told (good {n = n} {end = end} r l) w =
-      let t = run-within r (omega arith) in
-      let all = run-all (readAt s) (length s) r (read-end s end w) (omega arith) in
-      let kept = sym (run-bytes r ∙ ap (λ (x : List ℕ). allBytes (numbers (readAt s) n 0) ++ x) (drop-of-length-le s w)) in
-      (rw all (omega (arith, numbers-most (readAt s) n 0)), rw all (sym (append-nil (allBytes (numbers (readAt s) n 0))) ∙ kept))
-
-  -- The numbers of a good sheet are written as its bytes.
-  pub bytes-back : {end : ℕ} → sheet (readAt s) (length s) ≡ Good end → allBytes (numbersOf s) ≡ s
-  bytes-back e = told (rw e at (sheet-tells (readAt s) (length s))) (sheet-parts (readAt s) (length s) e .whole) .1
-
--- in a list each number of a run is one index
-list-run : (list : List ℕ) {n at end : ℕ} → Run (listAt list) n at end → at ≤ length list → (end ≡ at + n) × (end ≤ length list)
-list-run list none h = (omega arith, h)
-list-run list (more {at = at} e r) h =
-    let s = stands list at e in
-    let t = list-run list r (omega arith) in
-    (omega arith, t .1)
-
-listed : (list : List ℕ) {m end : ℕ} → Tells (listAt list) m 0 (Good end) → length list ≤ end → (end ≡ length list) × (length list ≤ m)
-listed list (good r l) w = let t = list-run list r (omega arith) in (omega arith, omega arith)
+-- The numbers of a good sheet are written as its bytes.
+pub bytes-back : (s : List ℕ) → Bytes s → {end : ℕ} → sheet (readAt s) (length s) ≡ Good end → allBytes (numbersOf s) ≡ s
+bytes-back s bytes e = told s bytes (rw e at (sheet-tells (readAt s) (length s))) (sheet-parts (readAt s) (length s) e .whole) .1
 
 -- The judgement of a valid list comes to its end, and it has at most 7,300 numbers.
 pub list-whole : (list : List ℕ) {end : ℕ} → sheet (listAt list) (length list) ≡ Good end → (end ≡ length list) × (length list ≤ 7300)

@@ -13,21 +13,23 @@ use Rattle.refusal.specs.declared.Refusal.{Refusal}
 use Rattle.refusal.specs.declared.Refusal.the-variants.{BadEdition, BadEvents}
 use Rattle.number.specs.declared.NumberRead.{NumberRead}
 use Rattle.number.specs.declared.NumberRead.the-variants.{Number, Refused as NoNumber}
-use Rattle.sheet.specs.declared.Judged.{Judged}
-use Rattle.sheet.specs.declared.Judged.the-variants.{Good, Fault}
+use Rattle.numbers.specs.declared.Part.{Part}
+use Rattle.numbers.specs.declared.Part.the-variants.{Good, Fault}
+use Rattle.numbers.specs.Numbers.{Source, withNumber, andThen, numberBetween, passed, numbers}
+use Rattle.numbers.proofs.Runs.{Run, Tells, tells-none, tells-less, tells-on, tells-after, tells-then, tells-cond, tells-ranged, passed-tells}
+use Rattle.numbers.proofs.Runs.Tells.{good, fault}
+use Rattle.frame.specs.declared.Setup.{Setup}
+use Rattle.frame.specs.declared.RowKind.{RowKind}
+use Rattle.frame.specs.declared.RowKind.the-variants.{Levels, Slaves}
+use Rattle.frame.specs.Kind.{rowSize, badRows, noRows, withCount, putRow, rowFits}
+use Rattle.sheet.specs.declared.RowsRead.{RowsRead}
 use Rattle.sheet.specs.Sheet.{
-  Source,
-  withNumber,
-  andThen,
-  inRange,
-  between,
-  past,
-  numbers,
-  Rows,
-  levels,
-  slaves,
+  rowsRead,
+  thenRows,
+  withRows,
   rowsFrom,
-  counted,
+  countedRows,
+  head,
   stepCount,
   event,
   events,
@@ -36,90 +38,54 @@ use Rattle.sheet.specs.Sheet.{
   sheet,
 }
 
--- n numbers stand one after the other, from a place to another
-pub data Run (src : Source) : ℕ → ℕ → ℕ → Type 0 where
-  none : {at : ℕ} → Run src 0 at at
-  more : {n at v next end : ℕ} → src at ≡ Number v next → Run src n next end → Run src (suc n) at end
+bad-eleven : (kind : RowKind) → numberOf (badRows kind) ≡ 11 → ⊥
+bad-eleven Levels e = omega arith
+bad-eleven Slaves e = omega arith
 
--- what a judgement says of the numbers from a place on: if it is good, they run to its end and are at most `most`; if
--- it is 11, the source said so
-pub data Tells (src : Source) : ℕ → ℕ → Judged → Type 0 where
-  good : {most n at end : ℕ} → Run src n at end → n ≤ most → Tells src most at (Good end)
-  fault : {most at : ℕ} {why : Refusal} {place : ℕ} → (numberOf why ≡ 11 → (q : ℕ) × (src q ≡ NoNumber why place))
-      → Tells src most at (Fault why place)
+-- what is said of the part of rows that were read, by the rows' own ways of going on: each is that of parts
+then-part : (j : Part) (setup : Setup) (f : ℕ → RowsRead) → thenRows j setup f .part ≡ andThen j (λ at. f at .part)
+then-part (Good at) setup f = refl
+then-part (Fault why p) setup f = refl
 
-module _ {src : Source} where
-  tells-none : {m at : ℕ} → Tells src m at (Good at)
-  tells-none {m} = good {most = m} none (omega arith)
+with-part : (got : NumberRead) (setup : Setup) (f : ℕ → ℕ → RowsRead) → withRows got setup f .part ≡ withNumber got (λ v next. f v next .part)
+with-part (Number v next) setup f = refl
+with-part (NoNumber why p) setup f = refl
 
-  tells-less : {m k at : ℕ} {j : Judged} → m ≤ k → Tells src m at j → Tells src k at j
-  tells-less {k = k} h (good r l) = good {most = k} r (omega arith)
-  tells-less h (fault e) = fault e
-
-  tells-on : {m at v next : ℕ} {j : Judged} → src at ≡ Number v next → Tells src m next j → Tells src (suc m) at j
-  tells-on {m} r (good s l) = good {most = suc m} (more r s) (omega arith)
-  tells-on r (fault e) = fault e
-
-  tells-after : {n m at mid : ℕ} {j : Judged} → Run src n at mid → Tells src m mid j → Tells src (n + m) at j
-  tells-after {m = m} none t = rw (zero-add m) t
-  tells-after {m = m} (more {n = n} r s) t = rw (suc-add n m) (tells-on r (tells-after s t))
-
-  tells-then : {m k at : ℕ} {j : Judged} {f : ℕ → Judged} → Tells src m at j → ((mid : ℕ) → Tells src k mid (f mid))
-      → Tells src (m + k) at (andThen j f)
-  tells-then (good {end = mid} r l) h = tells-less (omega arith) (tells-after r (h mid))
-  tells-then (fault e) h = fault e
-
-  tells-cond : {m at : ℕ} (b : Bool) {x y : Judged} → Tells src m at x → Tells src m at y → Tells src m at (cond b x y)
-  tells-cond true p q = p
-  tells-cond false p q = q
-
-  ranged-tells : (low high : ℕ) (why : Refusal) {m at : ℕ} {f : ℕ → ℕ → Judged} → (numberOf why ≡ 11 → ⊥)
-      → ((v next : ℕ) → v ≤ high → Tells src m next (f v next))
-      → (got : NumberRead) → src at ≡ got → Tells src (suc m) at (withNumber (inRange low high why at got) f)
-  ranged-tells low high why {at = at} other h (NoNumber not p) r = fault (λ e. (at, r))
-  ranged-tells low high why other h (Number v next) r =
-      by-test (leb low v && leb v high)
-      (λ t. rw t (tells-on r (h v next (leb-true v high (and-right (leb low v) _ t)))))
-      (λ e. rw e (fault (λ q. absurd (other q))))
-
-  with-tells : {m at : ℕ} {f : ℕ → ℕ → Judged} → ((v next : ℕ) → Tells src m next (f v next))
-      → (got : NumberRead) → src at ≡ got → Tells src (suc m) at (withNumber got f)
-  with-tells {at = at} h (NoNumber why p) r = fault (λ e. (at, r))
-  with-tells h (Number v next) r = tells-on r (h v next)
+cond-part : (b : Bool) (x y : RowsRead) → cond b x y .part ≡ cond b (x .part) (y .part)
+cond-part true x y = refl
+cond-part false x y = refl
 
 module _ (src : Source) where
-  -- a part that begins with a number in range
-  tells-ranged : (low high : ℕ) (why : Refusal) (at : ℕ) {m : ℕ} {f : ℕ → ℕ → Judged} → (numberOf why ≡ 11 → ⊥)
-      → ((v next : ℕ) → v ≤ high → Tells src m next (f v next))
-      → Tells src (suc m) at (withNumber (between src low high why at) f)
-  unfolding between
-  tells-ranged low high why at other h = ranged-tells low high why other h (src at) refl
+  rows-tell : (kind : RowKind) (left i : ℕ) (setup : Setup) (at : ℕ)
+      → Tells src (left * rowSize kind) at (rowsFrom kind src left i setup at .part)
+  rows-tell kind zero i setup at = tells-none
+  rows-tell kind (suc left) i setup at =
+      let more = putRow setup kind i (numbers src (rowSize kind) at) in
+      tells-less {m = rowSize kind + left * rowSize kind} (omega (arith, suc-mul left (rowSize kind)))
+      (rw (then-part (passed src (rowSize kind) at) setup _)
+      (tells-then (passed-tells src (rowSize kind) at) (λ next.
+      rw (cond-part (rowFits more kind i) _ _)
+      (tells-cond (rowFits more kind i) (rows-tell kind left (i + 1) more next) (fault (λ e. absurd (bad-eleven kind e)))))))
 
-  past-tells : (n at : ℕ) → Tells src n at (past src n at)
-  past-tells zero at = tells-none
-  past-tells (suc n) at = with-tells (λ v next. past-tells n next) (src at) refl
+  counted-tells : (kind : RowKind) (setup : Setup) (at : ℕ) → Tells src (suc (rowsMost * rowSize kind)) at (countedRows kind src setup at .part)
+  unfolding countedRows
+  counted-tells kind setup at =
+      rw (with-part (numberBetween src 1 rowsMost (badRows kind) at) setup _)
+      (tells-ranged src 1 rowsMost (badRows kind) at (bad-eleven kind) (λ n next h.
+      tells-less (mul-le-mul-right (rowSize kind) h) (rows-tell kind n 0 (withCount setup kind n) next)))
 
-  rows-tell : (kind : Rows) → (numberOf (kind .why) ≡ 11 → ⊥) → (left i : ℕ) (table : kind .Table) (at : ℕ)
-      → Tells src (left * kind .size) at (rowsFrom kind src left i table at)
-  rows-tell kind other zero i table at = tells-none
-  rows-tell kind other (suc left) i table at =
-      let more = kind .put table i (numbers src (kind .size) at) in
-      tells-less (omega (arith, suc-mul left (kind .size)))
-      (tells-then (past-tells (kind .size) at) (λ next.
-      tells-cond (kind .fits more i) (rows-tell kind other left (i + 1) more next) (fault (λ e. absurd (other e)))))
-
-  counted-tells : (kind : Rows) → (numberOf (kind .why) ≡ 11 → ⊥) → (at : ℕ)
-      → Tells src (suc (rowsMost * kind .size)) at (counted kind src at)
-  unfolding counted
-  counted-tells kind other at =
-      tells-ranged 1 rowsMost (kind .why) at other (λ n next h.
-      tells-less (mul-le-mul-right (kind .size) h) (rows-tell kind other n 0 (kind .none n) next))
+  head-tells : (at : ℕ) → Tells src (suc (rowsMost * 3) + suc (rowsMost * 5)) at (head src at .part)
+  unfolding head
+  head-tells at =
+      let levels = countedRows Levels src noRows at in
+      rw (then-part (levels .part) (levels .setup) (λ second. countedRows Slaves src (levels .setup) second))
+      (tells-then {k = suc (rowsMost * 5)} (counted-tells Levels noRows at) (λ second. counted-tells Slaves (levels .setup) second))
 
   event-tells : (at : ℕ) → Tells src 7 at (event src at)
   unfolding event stepCount
   event-tells at =
-      tells-ranged 0 1 BadEvents at (λ e. omega arith) (λ kind next h.
-      tells-cond (eqb kind 0) (tells-ranged 1 stepsMost BadEvents next (λ e. omega arith) (λ n end k. tells-none)) (past-tells 6 next))
+      tells-ranged src 0 1 BadEvents at (λ e. omega arith) (λ kind next h.
+      tells-cond (eqb kind 0) (tells-ranged src 1 stepsMost BadEvents next (λ e. omega arith) (λ n end k. tells-none)) (passed-tells src 6 next))
 
   events-tell : (n at : ℕ) → Tells src (n * 7) at (events src n at)
   events-tell zero at = tells-none
@@ -127,14 +93,13 @@ module _ (src : Source) where
 
   all-events-tell : (at : ℕ) → Tells src (suc (eventsMost * 7)) at (countedEvents src at)
   unfolding countedEvents
-  all-events-tell at = tells-ranged 0 eventsMost BadEvents at (λ e. omega arith) (λ n next h. tells-less (omega arith) (events-tell n next))
+  all-events-tell at = tells-ranged src 0 eventsMost BadEvents at (λ e. omega arith) (λ n next h. tells-less (omega arith) (events-tell n next))
 
   -- A good sheet is a run of at most 7,300 numbers, and an 11 is the source's.
   pub sheet-tells : (len : ℕ) → Tells src 7300 0 (sheet src len)
   unfolding sheet body
   sheet-tells len =
-      tells-ranged 1 1 BadEdition 0 (λ e. omega arith) (λ edition first h.
-      tells-then {k = suc (rowsMost * 5) + suc (eventsMost * 7)} (counted-tells levels (λ e. omega arith) first) (λ second.
-      tells-then {k = suc (eventsMost * 7)} (counted-tells slaves (λ e. omega arith) second) (λ third.
+      tells-ranged src 1 1 BadEdition 0 (λ e. omega arith) (λ edition first h.
+      tells-then {k = suc (eventsMost * 7)} (head-tells first) (λ third.
       tells-then {k = 0} (all-events-tell third) (λ end.
-      tells-cond (ltb end len) (fault (λ e. absurd (omega arith))) tells-none))))
+      tells-cond (ltb end len) (fault (λ e. absurd (omega arith))) tells-none)))

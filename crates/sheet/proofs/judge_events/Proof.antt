@@ -2,7 +2,7 @@
 use Prim.Native.Nat.{suc, _-_}
 use Rattle.sheet.proofs.Laws.{events-on, events-fault}
 use Rattle.sheet.specs.Sheet.{events}
-use Rattle.sheet.specs.inner.Judge.{source}
+use Rattle.numbers.specs.Numbers.{numberAt}
 use borrow.Author.Needs.{needs}
 use denote.Ref.{now}
 use mathlib.Core.Path.{_≡_, refl, sym, _∙_}
@@ -11,8 +11,8 @@ use Rattle.sheet.proofs.judge_events.Statement.{statement}
 use Rattle.sheet.proofs.judge_events.Tie as tie
 
 abbrev Inv-loop : tie.InvT-loop
-Inv-loop bytes list listed n at left₀ place₀ left place = events (source listed bytes list) left place ≡ events
-    (source listed bytes list) n at
+Inv-loop bytes list listed n at left₀ place₀ left place = events (numberAt listed bytes list) left place ≡ events
+    (numberAt listed bytes list) n at
 
 abbrev μ-loop : tie.MeasureT-loop
 μ-loop bytes list listed n at left₀ place₀ left place = left
@@ -24,7 +24,7 @@ returns : tie.Need-returns Inv-loop μ-loop
 returns c =
     let a = c .before .before .before .before .before .before .before .args in
     let l = c .before .before .before .before .loop in
-    let src = (source (a .listed) (now (a .bytes)) (now (a .list))) in
+    let src = (numberAt (a .listed) (now (a .bytes)) (now (a .list))) in
     let more : l .left ≡ suc (l .left - 1) = omega arith in
     c .enum-told .given .1
     ∙ sym (events-fault src (l .place) more (sym (c .before .before .judge-event .ensures) ∙ c .enum-told .given .1)) ∙ l .inv
@@ -33,9 +33,9 @@ loop-again : tie.Need-loop-again Inv-loop μ-loop
 loop-again c =
     let a = c .before .before .before .before .before .before .before .before .args in
     let l = c .before .before .before .before .before .loop in
-    let src = (source (a .listed) (now (a .bytes)) (now (a .list))) in
+    let src = (numberAt (a .listed) (now (a .bytes)) (now (a .list))) in
     let more : l .left ≡ suc (l .left - 1) = omega arith in
-    sym (events-on src (l .place) more (sym (c .before .before .before .judge-event .ensures) ∙ c .before .judged .given .1)) ∙ l .inv
+    sym (events-on src (l .place) more (sym (c .before .before .before .judge-event .ensures) ∙ c .before .event .given .1)) ∙ l .inv
 
 returns-2 : tie.Need-returns-2 Inv-loop μ-loop
 returns-2 c =

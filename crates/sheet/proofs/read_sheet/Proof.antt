@@ -1,15 +1,13 @@
 use Rattle.number.specs.Number.{readAt}
+use Rattle.numbers.specs.Numbers.{listAt, numbersOf, allBytes, copyNumbers, copyNumbersAfter, writeNumbers, writeNumbersAfter}
 use Rattle.sheet.proofs.Answers.{answer-fault, answer-done, answer-short}
-use Rattle.sheet.specs.Sheet.{sheet, numbersOf, readAnswer, readStored}
+use Rattle.sheet.specs.Sheet.{sheet, readAnswer, readStored, writeAnswer, writeStored}
 use borrow.Author.Needs.{needs}
 use denote.Ref.{now}
 use lib.ListN.{length}
 use mathlib.Core.Path.{sym, _∙_}
 use Rattle.sheet.proofs.read_sheet.Statement.{statement}
 use Rattle.sheet.proofs.read_sheet.Tie as tie
-
-copy-numbers-requires : tie.Need-copy-numbers-requires
-copy-numbers-requires c κs = search needs
 
 returns : tie.Need-returns
 unfolding readAnswer readStored
@@ -19,22 +17,24 @@ returns c =
     (sym (c .before .before .before .judge .ensures) ∙ c .before .judged .given .1)
 
 returns-2 : tie.Need-returns-2
-unfolding readAnswer readStored
+unfolding readAnswer readStored copyNumbers copyNumbersAfter
 returns-2 c =
-    let a = c .before .before .before .before .before .before .before .before .before .before .before .before .args in
+    let five = c .before .before .before .before .before in
+    let nine = five .before .before .before .before in
+    let a = nine .before .before .before .before .args in
     answer-done (sheet (readAt (now (a .bytes))) (length (now (a .bytes)))) (numbersOf (now (a .bytes))) (now (a .out))
-    (sym (c .before .before .before .before .before .before .before .before .judge .ensures)
-    ∙ c .before .before .before .before .before .before .enum-told .given .1)
-    (c .before .before .before .before .before .count-numbers .ensures) (c .before .before .before .before .if1 .taken)
-    (c .before .before .copy-numbers .ensures)
+    (sym (nine .judge .ensures) ∙ five .before .before .enum-told .given .1) (five .copy-numbers .ensures .1)
+    (sym (five .copy-numbers .ensures .0) ∙ c .before .copied .given .1)
 
 returns-3 : tie.Need-returns-3
-unfolding readAnswer readStored
+unfolding readAnswer readStored copyNumbers copyNumbersAfter
 returns-3 c =
-    let a = c .before .before .before .before .before .before .before .before .args in
+    let five = c .before .before .before .before .before in
+    let nine = five .before .before .before .before in
+    let a = nine .before .before .before .before .args in
     answer-short (sheet (readAt (now (a .bytes))) (length (now (a .bytes)))) (numbersOf (now (a .bytes))) (now (a .out))
-    (sym (c .before .before .before .before .judge .ensures) ∙ c .before .before .enum-told .given .1)
-    (c .before .count-numbers .ensures) (c .if1 .left)
+    (sym (nine .judge .ensures) ∙ five .before .before .enum-told .given .1) (five .copy-numbers .ensures .1)
+    (sym (five .copy-numbers .ensures .0) ∙ c .before .copied2 .given .1)
 
 pub read-sheet-spec : {M : Type 1} → statement M
 read-sheet-spec =
@@ -44,9 +44,11 @@ read-sheet-spec =
     (λ c κs. search needs)  -- judge-requires
     (λ c. search needs)  -- enum-known-judged
     (λ c. search needs)  -- enum-told
-    (λ c κs. search needs)  -- count-numbers-requires
-    copy-numbers-requires
+    (λ c κs. search needs)  -- copy-numbers-requires
+    (λ c. search needs)  -- enum-known-copied
+    (λ c. search needs)  -- enum-known-copied-2
     returns
     (λ c. search needs)  -- same-length
     returns-2
+    (λ c. search needs)  -- same-length-2
     returns-3)
