@@ -1,11 +1,12 @@
--- Rows by their kind: where there is no place for a row nothing is put, a row's numbers may have zeros after them, and a row that is put changes
--- nothing for the rows before it, nor for those of another kind. Assumes nothing.
+-- Rows by their kind: where there is no place for a row nothing is put, a row's numbers may have zeros after them, and a row that is put stands there and
+-- changes nothing for the rows before it, nor for those of another kind. Assumes nothing.
 use Prim.Native.Nat.{ℕ, zero, suc, _+_, _-_, _≤_, _<_}
-use mathlib.Core.Path.{_≡_, refl, ap, ap₂}
+use mathlib.Core.Path.{_≡_, refl, ap, ap₂, _∙_}
 use mathlib.Core.List.{List}
 use native.Mathlib.Omega.{arith}
-use lib.ListN.{length, getD, set}
-use lib.Seq.{set-out, getD-set-other}
+use lib.ListN.{length, getD, set, length-set}
+use lib.Seq.{set-out, getD-set-same, getD-set-other}
+use Rattle.basics.specs.Limits.{rowsMost}
 use Rattle.basics.proofs.ScanLaws.{all-ext}
 use Rattle.frame.specs.declared.LevelRow.{LevelRow}
 use Rattle.frame.specs.declared.SlaveRow.{SlaveRow}
@@ -28,12 +29,10 @@ pub put-alike : (setup : Setup) (kind : RowKind) (i : ℕ) (a b : List ℕ) → 
 put-alike setup Levels i a b same = rw (same 0, same 1, same 2)
 put-alike setup Slaves i a b same = rw (same 0, same 1, same 2, same 3, same 4)
 
--- the count stays, and so do the rows of the other kind
-pub put-count : (setup : Setup) (kind other : RowKind) (i : ℕ) (row : List ℕ) → countOf (putRow setup kind i row) other ≡ countOf setup other
-put-count setup Levels Levels i row = refl
-put-count setup Levels Slaves i row = refl
-put-count setup Slaves Levels i row = refl
-put-count setup Slaves Slaves i row = refl
+-- the count stays where a row is put, and is the one that was given
+pub put-count : (setup : Setup) (kind : RowKind) (i : ℕ) (row : List ℕ) → countOf (putRow setup kind i row) kind ≡ countOf setup kind
+put-count setup Levels i row = refl
+put-count setup Slaves i row = refl
 
 pub counted : (setup : Setup) (kind : RowKind) (count : ℕ) → countOf (withCount setup kind count) kind ≡ count
 counted setup Levels count = refl
@@ -71,3 +70,55 @@ unfolding levelRowFits isRising isLastFifteen
 steady setup Levels i j row h =
     rw (level-kept (setup .levels) i j (levelFrom row) h, level-kept (setup .levels) i (j - 1) (levelFrom row) (omega arith))
 steady setup Slaves i j row h = slaves-kept (setup .slaves) i (slaveFrom row) j h
+
+-- The tables have a place for each row, as in the program they always have.
+pub record Wide (setup : Setup) : Type 0 where
+  pub levels : length (setup .levels .rows) ≡ rowsMost
+  pub slaves : length (setup .slaves .rows) ≡ rowsMost
+
+pub put-wide : (setup : Setup) (kind : RowKind) (i : ℕ) (row : List ℕ) → Wide setup → Wide (putRow setup kind i row)
+put-wide setup Levels i row w = record { levels = simp length-set (w .levels); slaves = w .slaves }
+put-wide setup Slaves i row w = record { levels = w .levels; slaves = simp length-set (w .slaves) }
+
+pub count-wide : (setup : Setup) (kind : RowKind) (count : ℕ) → Wide setup → Wide (withCount setup kind count)
+count-wide setup Levels count w = record { levels = w .levels; slaves = w .slaves }
+count-wide setup Slaves count w = record { levels = w .levels; slaves = w .slaves }
+
+-- a row that stands in its table, by its numbers
+abbrev pub HasRow : Setup → RowKind → ℕ → List ℕ → Type 0
+HasRow setup Levels j row = levelAt (setup .levels) j ≡ levelFrom row
+HasRow setup Slaves j row = slaveAt (setup .slaves) j ≡ slaveFrom row
+
+pub put-has : (setup : Setup) (kind : RowKind) (i : ℕ) (row : List ℕ) → Wide setup → i < rowsMost → HasRow (putRow setup kind i row) kind i row
+put-has setup Levels i row w h = getD-set-same (setup .levels .rows) i (levelFrom row) noLevel (omega (arith, w .levels))
+put-has setup Slaves i row w h = getD-set-same (setup .slaves .rows) i (slaveFrom row) noSlave (omega (arith, w .slaves))
+
+pub put-keeps : (setup : Setup) (kind : RowKind) (i j : ℕ) (row other : List ℕ) → j < i → HasRow setup kind j other
+    → HasRow (putRow setup kind i row) kind j other
+put-keeps setup Levels i j row other h e = level-kept (setup .levels) i j (levelFrom row) h ∙ e
+put-keeps setup Slaves i j row other h e = slave-kept (setup .slaves) i (slaveFrom row) j h ∙ e
+
+-- the rows of one kind are those of another set-up
+abbrev pub SameRows : Setup → Setup → RowKind → Type 0
+SameRows a b Levels = a .levels ≡ b .levels
+SameRows a b Slaves = a .slaves ≡ b .slaves
+
+pub same-refl : (a : Setup) (kind : RowKind) → SameRows a a kind
+same-refl a Levels = refl
+same-refl a Slaves = refl
+
+pub same-then : (a b c : Setup) (kind : RowKind) → SameRows a b kind → SameRows b c kind → SameRows a c kind
+same-then a b c Levels p q = p ∙ q
+same-then a b c Slaves p q = p ∙ q
+
+pub put-others : (setup : Setup) (kind other : RowKind) (i : ℕ) (row : List ℕ) → (kind ≡ other → ⊥) → SameRows (putRow setup kind i row) setup other
+put-others setup Levels Levels i row n = absurd (n refl)
+put-others setup Levels Slaves i row n = refl
+put-others setup Slaves Levels i row n = refl
+put-others setup Slaves Slaves i row n = absurd (n refl)
+
+pub count-others : (setup : Setup) (kind other : RowKind) (count : ℕ) → (kind ≡ other → ⊥) → SameRows (withCount setup kind count) setup other
+count-others setup Levels Levels count n = absurd (n refl)
+count-others setup Levels Slaves count n = refl
+count-others setup Slaves Levels count n = refl
+count-others setup Slaves Slaves count n = absurd (n refl)

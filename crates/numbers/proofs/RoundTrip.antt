@@ -146,3 +146,11 @@ numbers-fit bytes y zero at = λ i. omega arith
 numbers-fit bytes y (suc n) at =
     followed-fit (readAt bytes at) (numbers (readAt bytes) n) (λ v next e. written-back bytes at y e .fits) (numbers-fit bytes y n)
 
+
+-- a part of a list that is good ends at most one past its end, if it begins there
+list-ends : (list : List ℕ) {n at end : ℕ} → Run (listAt list) n at end → at ≤ length list + 1 → end ≤ length list + 1
+list-ends list none h = h
+list-ends list (more {at = at} e r) h = let s = stands list at e in list-ends list r (omega arith)
+
+pub part-ends : (list : List ℕ) {m at end : ℕ} → Tells (listAt list) m at (Good end) → at ≤ length list + 1 → end ≤ length list + 1
+part-ends list (good r l) h = list-ends list r h

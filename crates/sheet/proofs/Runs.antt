@@ -74,7 +74,7 @@ module _ (src : Source) where
       (tells-ranged src 1 rowsMost (badRows kind) at (bad-eleven kind) (λ n next h.
       tells-less (mul-le-mul-right (rowSize kind) h) (rows-tell kind n 0 (withCount setup kind n) next)))
 
-  head-tells : (at : ℕ) → Tells src (suc (rowsMost * 3) + suc (rowsMost * 5)) at (head src at .part)
+  pub head-tells : (at : ℕ) → Tells src (suc (rowsMost * 3) + suc (rowsMost * 5)) at (head src at .part)
   unfolding head
   head-tells at =
       let levels = countedRows Levels src noRows at in

@@ -14,14 +14,15 @@ use lib.Dec.{eqb}
 use Rattle.basics.specs.Limits.{stepsMost, eventsMost}
 use Rattle.basics.proofs.Tests.{by-test}
 use Rattle.refusal.specs.declared.Refusal.the-variants.{BadEvents}
-use Rattle.sheet.specs.declared.Judged.the-variants.{Good}
-use Rattle.sheet.specs.Sheet.{listAt, between, past, stepCount, event, events, countedEvents, sheet}
-use Rattle.sheet.proofs.Laws.{in-range, stands}
-use Rattle.sheet.proofs.Parts.{with-good, then-good}
+use Rattle.numbers.specs.declared.Part.the-variants.{Good}
+use Rattle.numbers.specs.Numbers.{listAt, numberBetween, passed}
+use Rattle.numbers.proofs.Laws.{in-range, stands}
+use Rattle.numbers.proofs.Parts.{with-good, then-good}
+use Rattle.sheet.specs.Sheet.{stepCount, event, events, countedEvents, sheet}
 use Rattle.sheet.proofs.RoundTrip.{list-whole}
 use Rattle.sheetlist.specs.declared.Event.the-variants.{Steps, Post}
 use Rattle.sheetlist.specs.Held.{isSteps, postAt, eventsFrom, eventCount, eventAt, firstEvent, nextEvent, eventFrom, eventOf}
-use Rattle.sheetlist.proofs.Framed.{past-listed, events-placed}
+use Rattle.sheetlist.proofs.Framed.{passed-listed, events-placed}
 
 good-one : {a b : ℕ} → Good a ≡ Good b → a ≡ b
 good-one e = cc
@@ -36,7 +37,7 @@ module _ (list : List ℕ) where
   step-count : (at : ℕ) {next : ℕ} → stepCount (listAt list) at ≡ Good next → StepCount at next
   unfolding stepCount
   step-count at {next} e =
-      let w = with-good (between (listAt list) 1 stepsMost BadEvents at) (λ n to. Good to) e in
+      let w = with-good (numberBetween (listAt list) 1 stepsMost BadEvents at) (λ n to. Good to) e in
       let r = in-range (listAt list) 1 stepsMost BadEvents at (w .2) in
       let s = stands list at (r .stands) in
       let same : w .1 ≡ next = good-one (w .3) in
@@ -54,7 +55,7 @@ module _ (list : List ℕ) where
     pub steps : isSteps list at ≡ true → (1 ≤ getD list (at + 1) 0) × (getD list (at + 1) 0 ≤ stepsMost)
 
   event-from : (at kind to : ℕ) {next : ℕ} → kind ≡ getD list at 0 → kind ≤ 1 → to ≡ at + 1 → at < length list
-      → cond (eqb kind 0) (stepCount (listAt list) to) (past (listAt list) 6 to) ≡ Good next → Event-good at next
+      → cond (eqb kind 0) (stepCount (listAt list) to) (passed (listAt list) 6 to) ≡ Good next → Event-good at next
   unfolding nextEvent
   event-from at kind to {next} k m p h e =
       let inside = lt-ltb at (length list) h in
@@ -69,8 +70,8 @@ module _ (list : List ℕ) where
         steps = λ b. (c .least, c .most);
       })
       (λ f.
-      let q : past (listAt list) 6 (at + 1) ≡ Good next = rw (k, p, f) at e in
-      let c = past-listed list 6 (at + 1) q in
+      let q : passed (listAt list) 6 (at + 1) ≡ Good next = rw (k, p, f) at e in
+      let c = passed-listed list 6 (at + 1) q in
       record {
         inside = h;
         kind = omega arith;
@@ -81,8 +82,8 @@ module _ (list : List ℕ) where
   event-good : (at : ℕ) {next : ℕ} → event (listAt list) at ≡ Good next → Event-good at next
   unfolding event
   event-good at e =
-      let w = with-good (between (listAt list) 0 1 BadEvents at)
-      (λ kind to. cond (eqb kind 0) (stepCount (listAt list) to) (past (listAt list) 6 to)) e in
+      let w = with-good (numberBetween (listAt list) 0 1 BadEvents at)
+      (λ kind to. cond (eqb kind 0) (stepCount (listAt list) to) (passed (listAt list) 6 to)) e in
       let r = in-range (listAt list) 0 1 BadEvents at (w .2) in
       let s = stands list at (r .stands) in
       event-from at (w .0) (w .1) (s .value) (r .most) (s .next-is) (s .inside) (w .3)
@@ -111,7 +112,7 @@ module _ (list : List ℕ) where
   unfolding countedEvents eventCount eventFrom
   events-all g =
       let e = rw (list-whole list g .0) at (events-placed list g) in
-      let w = with-good (between (listAt list) 0 eventsMost BadEvents (eventsFrom list)) (λ n next. events (listAt list) n next) e in
+      let w = with-good (numberBetween (listAt list) 0 eventsMost BadEvents (eventsFrom list)) (λ n next. events (listAt list) n next) e in
       let s = stands list (eventsFrom list) (in-range (listAt list) 0 eventsMost BadEvents (eventsFrom list) (w .2) .stands) in
       events-good (eventCount list) 0 (eventCount list) (sym (zero-add (eventCount list))) (rw (s .value, s .next-is) at (w .3))
 
@@ -123,7 +124,7 @@ module _ (list : List ℕ) where
   pub few-events : {end : ℕ} → sheet (listAt list) (length list) ≡ Good end → eventCount list ≤ eventsMost
   unfolding countedEvents eventCount
   few-events g =
-      let w = with-good (between (listAt list) 0 eventsMost BadEvents (eventsFrom list)) (λ n next. events (listAt list) n next)
+      let w = with-good (numberBetween (listAt list) 0 eventsMost BadEvents (eventsFrom list)) (λ n next. events (listAt list) n next)
       (events-placed list g) in
       let r = in-range (listAt list) 0 eventsMost BadEvents (eventsFrom list) (w .2) in
       omega (arith, r .most, stands list (eventsFrom list) (r .stands) .value)

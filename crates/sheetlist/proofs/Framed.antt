@@ -1,7 +1,7 @@
--- The set-up of a valid list keeps the frame, and its events end where the list ends. Assumes nothing.
+-- The set-up of a valid list keeps the frame, its rows are the list's, and its events begin after them. Assumes nothing.
 use Prim.Native.Nat.{ℕ, zero, suc, _+_, _*_, _≤_, _<_}
 use mathlib.Core.Path.{_≡_, refl, sym, ap, _∙_}
-use mathlib.Core.Bool.{true, _&&_}
+use mathlib.Core.Bool.{Bool, true, false, cond, _&&_}
 use mathlib.Core.List.{List}
 use mathlib.Core.Logic.{⊎-elim}
 use native.Mathlib.Nat.{suc-mul, zero-mul, add-zero, zero-add, eq-or-lt-of-le, le-of-suc-le-suc}
@@ -13,164 +13,187 @@ use Rattle.basics.specs.Limits.{rowsMost, storeMost}
 use Rattle.basics.specs.Scan.{allBelow}
 use Rattle.basics.proofs.ScanLaws.{all-intro}
 use Rattle.basics.proofs.Tests.{and-both}
+use Rattle.refusal.specs.declared.Refusal.{Refusal}
 use Rattle.refusal.specs.declared.Refusal.the-variants.{BadEdition}
 use Rattle.number.specs.Number.{Bytes}
-use Rattle.frame.specs.Frame.{present, isRowCount, isMasterLength, levelsFit, slavesFit, isFramed}
-use Rattle.sheet.specs.declared.Judged.the-variants.{Good}
-use Rattle.sheet.specs.Sheet.{
-  listAt,
-  between,
-  past,
-  numbers,
-  Rows,
-  levels,
-  slaves,
-  rowsFrom,
+use Rattle.numbers.specs.declared.Part.{Part}
+use Rattle.numbers.specs.declared.Part.the-variants.{Good, Fault}
+use Rattle.numbers.specs.Numbers.{listAt, numberBetween, passed, numbers, numbersOf}
+use Rattle.numbers.proofs.Laws.{in-range, stands}
+use Rattle.numbers.proofs.Parts.{no-good, with-good}
+use Rattle.frame.specs.declared.Setup.{Setup}
+use Rattle.frame.specs.declared.RowKind.{RowKind}
+use Rattle.frame.specs.declared.RowKind.the-variants.{Levels, Slaves}
+use Rattle.frame.specs.declared.LevelRows.{LevelRows}
+use Rattle.frame.specs.Frame.{levelAt, slaveAt, isRowCount, isMasterLength, levelsFit, slavesFit, isFramed}
+use Rattle.frame.specs.Kind.{rowSize, levelFrom, slaveFrom, badRows, noRows, countOf, withCount, putRow, rowFits}
+use Rattle.frame.proofs.KindLaws.{
+  Wide,
+  HasRow,
+  SameRows,
+  steady,
   counted,
-  countedEvents,
-  sheet,
-  numbersOf,
-  readAnswer,
-  readStored,
+  put-count,
+  put-wide,
+  count-wide,
+  put-has,
+  put-keeps,
+  same-refl,
+  same-then,
+  put-others,
+  count-others,
 }
+use Rattle.sheet.specs.declared.RowsRead.{RowsRead}
 use Rattle.sheet.specs.declared.SheetAnswer.the-variants.{Done}
-use Rattle.sheet.proofs.Laws.{in-range, stands}
+use Rattle.sheet.specs.Sheet.{rowsRead, rowsFrom, countedRows, head, headOf, countedEvents, sheet, readAnswer, readStored}
 use Rattle.sheet.proofs.Calls.{read-list}
-use Rattle.sheet.proofs.Parts.{sheet-parts, with-good, then-good, cond-good}
-use Rattle.sheetlist.specs.Held.{levelCount, slavesFrom, slaveCount, eventsFrom, table, levelsOf, slavesOf, setupOf}
-use Rattle.sheetlist.proofs.Steady.{Steady, levels-steady, slaves-steady}
+use Rattle.sheet.proofs.Parts.{sheet-parts, head-parts, then-rows-good, with-rows-good}
+use Rattle.sheetlist.specs.Held.{setupOf, placeOr, eventsFrom}
+
+other-kind : Slaves ≡ Levels → ⊥
+other-kind e = let z : _≡_ {A = ℕ} 5 3 = ap rowSize e in omega arith
+
+good-one : {a b : ℕ} → Good a ≡ Good b → a ≡ b
+good-one e = cc
+
+part-of : {a b : RowsRead} {end : ℕ} → a ≡ b → a .part ≡ Good end → b .part ≡ Good end
+part-of e p = sym (ap (λ (r : RowsRead). r .part) e) ∙ p
+
+fit-good : (b : Bool) (x : RowsRead) (setup : Setup) (why : Refusal) (p : ℕ) {end : ℕ} → cond b x (rowsRead setup (Fault why p)) .part ≡ Good end
+    → (b ≡ true) × (cond b x (rowsRead setup (Fault why p)) ≡ x)
+fit-good true x setup why p e = (refl, refl)
+fit-good false x setup why p e = no-good e
 
 module _ (list : List ℕ) where
   -- numbers in a row
-  pub past-listed : (n at : ℕ) {next : ℕ} → past (listAt list) n at ≡ Good next → next ≡ at + n
-  past-listed zero at {next} e = let a : at ≡ next = cc in omega arith
-  past-listed (suc n) at e =
-      let w = with-good (listAt list at) (λ v to. past (listAt list) n to) e in
+  pub passed-listed : (n at : ℕ) {next : ℕ} → passed (listAt list) n at ≡ Good next → next ≡ at + n
+  passed-listed zero at {next} e = let a : at ≡ next = cc in omega arith
+  passed-listed (suc n) at e =
+      let w = with-good (listAt list at) (λ v to. passed (listAt list) n to) e in
       let s = stands list at (w .2) in
-      omega (arith, past-listed n (w .1) (w .3), s .next-is)
+      omega (arith, passed-listed n (w .1) (w .3), s .next-is)
 
-  -- the rows of a kind that were judged: each fits the table as it was when the row was put into it
-  module _ (kind : Rows) (from count : ℕ) where
-    Fit : ℕ → Type 0
-    Fit n = (j : ℕ) → j < n → kind .fits (table kind list from count (suc j)) j ≡ true
+  -- the rows of a kind that were read from the index `from` on, into the set-up `first`: as many as i of them
+  module _ (kind : RowKind) (first : Setup) (from : ℕ) where
+    record Held (i : ℕ) (setup : Setup) : Type 0 where
+      wide : Wide setup
+      count : countOf setup kind ≡ countOf first kind
+      others : (other : RowKind) → (kind ≡ other → ⊥) → SameRows setup first other
+      fit : (j : ℕ) → j < i → rowFits setup kind j ≡ true
+      row : (j : ℕ) → j < i → HasRow setup kind j (numbers (listAt list) (rowSize kind) (from + j * rowSize kind))
 
-    fit-more : (i : ℕ) → Fit i → kind .fits (table kind list from count (suc i)) i ≡ true → Fit (suc i)
-    unfolding Fit
-    fit-more i before last j h = ⊎-elim (λ e. rw e last) (λ l. before j l) (eq-or-lt-of-le (le-of-suc-le-suc h))
+    one-more : (i : ℕ) (setup : Setup) → Held i setup → i < rowsMost
+        → rowFits (putRow setup kind i (numbers (listAt list) (rowSize kind) (from + i * rowSize kind))) kind i ≡ true
+        → Held (suc i) (putRow setup kind i (numbers (listAt list) (rowSize kind) (from + i * rowSize kind)))
+    one-more i setup h few fits =
+        let row = numbers (listAt list) (rowSize kind) (from + i * rowSize kind) in
+        record {
+          wide = put-wide setup kind i row (h .wide);
+          count = put-count setup kind i row ∙ h .count;
+          others = λ other n.
+              same-then (putRow setup kind i row) setup first other (put-others setup kind other i row n) (h .others other n);
+          fit = λ j l. ⊎-elim (λ e. rw e fits) (λ k. steady setup kind i j row k ∙ h .fit j k) (eq-or-lt-of-le (le-of-suc-le-suc l));
+          row = λ j l. ⊎-elim (λ e. rw e (put-has setup kind i row (h .wide) few))
+              (λ k. put-keeps setup kind i j row (numbers (listAt list) (rowSize kind) (from + j * rowSize kind)) k (h .row j k))
+              (eq-or-lt-of-le (le-of-suc-le-suc l));
+        }
 
-    next-row : (left i next : ℕ) {end : ℕ} (more : kind .Table) → next ≡ from + suc i * kind .size
-        → rowsFrom kind (listAt list) left (i + 1) more next ≡ Good end
-        → rowsFrom kind (listAt list) left (suc i) more (from + suc i * kind .size) ≡ Good end
-    next-row left i next more on g = rw (add-one i, on) at g
-
-    rows-held : (left i n : ℕ) {end : ℕ} → n ≡ i + left → Fit i
-        → rowsFrom kind (listAt list) left i (table kind list from count i) (from + i * kind .size) ≡ Good end
-        → Fit n × (end ≡ from + n * kind .size)
-    rows-held zero i n {end} e before g =
+    -- `r` is what the rows left give
+    rows-held : (left i n : ℕ) (setup : Setup) (at : ℕ) (r : RowsRead) {end : ℕ} → r ≡ rowsFrom kind (listAt list) left i setup at
+        → at ≡ from + i * rowSize kind → n ≡ i + left → n ≤ rowsMost → Held i setup → r .part ≡ Good end
+        → Held n (r .setup) × (end ≡ from + n * rowSize kind)
+    rows-held zero i n setup at r {end} e here all few h p =
         let same : i ≡ n = omega arith in
-        let stop : from + i * kind .size ≡ end = cc in
-        rw (← same) (before, sym stop)
-    rows-held (suc left) i n {end} e before g =
-        let at = from + i * kind .size in
-        let a = then-good (past (listAt list) (kind .size) at) _ g in
-        let next = past-listed (kind .size) at (a .1) in
-        let b = cond-good (kind .fits (table kind list from count (suc i)) i) _ (kind .why) at (a .2) in
-        let on : a .0 ≡ from + suc i * kind .size = omega (arith, next, suc-mul i (kind .size)) in
-        rows-held left (suc i) n (omega arith) (fit-more i before (b .0))
-        (next-row left i (a .0) (table kind list from count (suc i)) on (b .1))
-
-    -- as long as a row that is put changes nothing for the rows before it, all of them fit the whole table
-    all-fit : Steady kind → (n : ℕ) → Fit n → (j : ℕ) → j < n → kind .fits (table kind list from count n) j ≡ true
-    unfolding Fit
-    all-fit steady zero fit j h = absurd (omega arith)
-    all-fit steady (suc n) fit j h =
-        ⊎-elim
-        (λ e. rw e (fit n (omega arith)))
-        (λ l.
-        steady (table kind list from count n) n j (numbers (listAt list) (kind .size) (from + n * kind .size)) l
-        ∙ all-fit steady n (λ k m. fit k (omega arith)) j l)
-        (eq-or-lt-of-le (le-of-suc-le-suc h))
-
-  counted-rows : (kind : Rows) (v next at : ℕ) {end : ℕ} → v ≡ getD list at 0 → next ≡ at + 1
-      → rowsFrom kind (listAt list) v 0 (kind .none v) next ≡ Good end
-      → rowsFrom kind (listAt list) (getD list at 0) 0 (kind .none (getD list at 0)) (at + 1 + 0 * kind .size) ≡ Good end
-  counted-rows kind v next at p q e = rw (zero-mul, add-zero) (rw (p, q) at e)
+        let stop : at ≡ end = good-one (part-of e p) in
+        (rw (e, ← same) h, rw (← same) (sym stop ∙ here))
+    rows-held (suc left) i n setup at r {end} e here all few h p =
+        let row = numbers (listAt list) (rowSize kind) at in
+        let more = putRow setup kind i row in
+        let a = then-rows-good (passed (listAt list) (rowSize kind) at) setup _ (part-of e p) in
+        let b = fit-good (rowFits more kind i) _ more (badRows kind) at (part-of (e ∙ a .2) p) in
+        let next : a .0 ≡ from + suc i * rowSize kind = omega (arith, passed-listed (rowSize kind) at (a .1), suc-mul i (rowSize kind)) in
+        let on = ap (λ (k : ℕ). rowsFrom kind (listAt list) left k more (a .0)) (add-one i) in
+        rows-held left (suc i) n more (a .0) r (e ∙ a .2 ∙ b .1 ∙ on) next (omega arith) few
+        (rw here (one-more i setup h (omega arith) (rw here at (b .0)))) p
 
   -- a section that was judged: its count, its rows, and where it ends
-  record Section (kind : Rows) (at end : ℕ) : Type 0 where
+  record Section (kind : RowKind) (first : Setup) (at end : ℕ) (setup : Setup) : Type 0 where
     few : isRowCount (getD list at 0) ≡ true
     most : getD list at 0 ≤ rowsMost
-    fit : Fit kind (at + 1) (getD list at 0) (getD list at 0)
-    ends : end ≡ at + 1 + getD list at 0 * kind .size
+    count : countOf setup kind ≡ getD list at 0
+    wide : Wide setup
+    others : (other : RowKind) → (kind ≡ other → ⊥) → SameRows setup first other
+    fit : (j : ℕ) → j < getD list at 0 → rowFits setup kind j ≡ true
+    row : (j : ℕ) → j < getD list at 0 → HasRow setup kind j (numbers (listAt list) (rowSize kind) (at + 1 + j * rowSize kind))
+    ends : end ≡ at + 1 + getD list at 0 * rowSize kind
 
-  section-held : (kind : Rows) (at : ℕ) {end : ℕ} → counted kind (listAt list) at ≡ Good end → Section kind at end
-  unfolding counted isRowCount Fit
-  section-held kind at {end} e =
-      let w =
-      with-good (between (listAt list) 1 rowsMost (kind .why) at) (λ n next. rowsFrom kind (listAt list) n 0 (kind .none n) next) e
-      in
-      let r = in-range (listAt list) 1 rowsMost (kind .why) at (w .2) in
-      let s = stands list at (r .stands) in
+  section-held : (kind : RowKind) (first : Setup) (at : ℕ) (r : RowsRead) {end : ℕ} → Wide first → r ≡ countedRows kind (listAt list) first at
+      → r .part ≡ Good end → Section kind first at end (r .setup)
+  unfolding countedRows isRowCount
+  section-held kind first at r {end} wide e p =
+      let src = listAt list in
+      let w = with-rows-good (numberBetween src 1 rowsMost (badRows kind) at) first
+      (λ n next. rowsFrom kind src n 0 (withCount first kind n) next) (part-of e p) in
+      let g = in-range src 1 rowsMost (badRows kind) at (w .2) in
+      let s = stands list at (g .stands) in
       let n = getD list at 0 in
-      let h = rows-held kind (at + 1) n n 0 n (sym (zero-add n)) (λ j l. absurd (omega arith))
-      (counted-rows kind (w .0) (w .1) at (s .value) (s .next-is) (w .3)) in
+      let begun = withCount first kind n in
+      let rows : r ≡ rowsFrom kind src n 0 begun (at + 1) = rw (s .value, s .next-is) at (e ∙ w .3) in
+      let start : at + 1 ≡ at + 1 + 0 * rowSize kind = omega (arith, zero-mul (rowSize kind)) in
+      let none : Held kind begun (at + 1) 0 begun = record {
+        wide = count-wide first kind n wide;
+        count = refl;
+        others = λ other d. same-refl begun other;
+        fit = λ j l. absurd (omega arith);
+        row = λ j l. absurd (omega arith);
+      } in
+      let h = rows-held kind begun (at + 1) n 0 n begun (at + 1) r rows start (sym (zero-add n)) (omega (arith, g .most, s .value)) none p in
       record {
-        few = and-both _ _ (le-leb 1 n (omega (arith, r .least, s .value))) (le-leb n rowsMost (omega (arith, r .most, s .value)));
-        most = omega (arith, r .most, s .value);
-        fit = h .0;
+        few = and-both _ _ (le-leb 1 n (omega (arith, g .least, s .value))) (le-leb n rowsMost (omega (arith, g .most, s .value)));
+        most = omega (arith, g .most, s .value);
+        count = h .0 .count ∙ counted first kind n;
+        wide = h .0 .wide;
+        others = λ other d. same-then (r .setup) begun first other (h .0 .others other d) (count-others first kind other n d);
+        fit = h .0 .fit;
+        row = h .0 .row;
         ends = h .1;
       }
 
   -- the whole table of a section passes the frame's test of a count and of every row
-  whole-fits : (kind : Rows) (at : ℕ) {end : ℕ} → Steady kind → Section kind at end → (countOf : kind .Table → ℕ)
-      → ((i : ℕ) → countOf (table kind list (at + 1) (getD list at 0) i) ≡ getD list at 0)
-      → (t : kind .Table) → t ≡ table kind list (at + 1) (getD list at 0) (present (getD list at 0))
-      → (isRowCount (countOf t) && allBelow (kind .fits t) (countOf t)) ≡ true
-  whole-fits kind at steady section countOf counts t e =
-      let n = getD list at 0 in
-      let all : present n ≡ n = omega (arith, section .most) in
-      let same : t ≡ table kind list (at + 1) n n = e ∙ ap (table kind list (at + 1) n) all in
-      let count : countOf t ≡ n = ap countOf same ∙ counts n in
-      let rows = all-intro (kind .fits (table kind list (at + 1) n n)) n (all-fit kind (at + 1) n steady n (section .fit)) in
-      rw (count, same) (and-both (isRowCount n) _ (section .few) rows)
+  whole-fits : (kind : RowKind) {first : Setup} {at end : ℕ} (setup : Setup) → Section kind first at end setup
+      → (isRowCount (countOf setup kind) && allBelow (rowFits setup kind) (countOf setup kind)) ≡ true
+  whole-fits kind {at = at} setup s =
+      rw (s .count) (and-both (isRowCount (getD list at 0)) _ (s .few) (all-intro (rowFits setup kind) (getD list at 0) (s .fit)))
 
-  level-count : (from count i : ℕ) → table levels list from count i .count ≡ count
-  level-count from count zero = refl
-  level-count from count (suc i) = level-count from count i
-
-  slave-count : (from count i : ℕ) → table slaves list from count i .count ≡ count
-  slave-count from count zero = refl
-  slave-count from count (suc i) = slave-count from count i
-
-  pub levels-counted : levelsOf list .count ≡ levelCount list
-  unfolding levelsOf
-  levels-counted = level-count 2 (levelCount list) (present (levelCount list))
-
-  pub slaves-counted : slavesOf list .count ≡ slaveCount list
-  unfolding slavesOf
-  slaves-counted = slave-count (slavesFrom list + 1) (slaveCount list) (present (slaveCount list))
-
-  -- the indices at which the parts of a valid list begin
-  record Places (end : ℕ) : Type 0 where
-    level-rows : Section levels 1 (slavesFrom list)
-    slave-rows : Section slaves (slavesFrom list) (eventsFrom list)
+  -- the level rows with the slave rows after them, and where the slave count and the event count stand
+  pub record Places (end : ℕ) : Type 0 where
+    pub second : ℕ
+    levels : Setup
+    level-rows : Section Levels noRows 1 second levels
+    slave-rows : Section Slaves levels second (eventsFrom list) (headOf list .setup)
     events-good : countedEvents (listAt list) (eventsFrom list) ≡ Good end
     whole : length list ≤ end
 
+  no-rows-wide : Wide noRows
+  no-rows-wide = record { levels = refl; slaves = refl }
+
   places : {end : ℕ} → sheet (listAt list) (length list) ≡ Good end → Places end
-  unfolding slavesFrom levelCount eventsFrom slaveCount
+  unfolding eventsFrom headOf
   places {end} g =
-      let p = sheet-parts (listAt list) (length list) g in
-      let first : p .first ≡ 1 = omega
-      (arith, stands list 0 (in-range (listAt list) 1 1 BadEdition 0 (p .edition-good) .stands) .next-is) in
-      let l = section-held levels 1 (rw first at (p .levels-good)) in
-      let second : p .second ≡ slavesFrom list = omega (arith, l .ends) in
-      let s = section-held slaves (slavesFrom list) (rw second at (p .slaves-good)) in
-      let third : p .third ≡ eventsFrom list = omega (arith, s .ends) in
+      let src = listAt list in
+      let p = sheet-parts src (length list) g in
+      let first : p .first ≡ 1 = omega (arith, stands list 0 (in-range src 1 1 BadEdition 0 (p .edition-good) .stands) .next-is) in
+      let good : head src 1 .part ≡ Good (p .third) = rw first at (p .head-good) in
+      let h = head-parts src 1 good in
+      let levels = countedRows Levels src noRows 1 in
+      let l = section-held Levels noRows 1 levels no-rows-wide refl (h .levels-good) in
+      let s = section-held Slaves (levels .setup) (h .second) (head src 1) (l .wide) (h .whole) good in
       record {
-        level-rows = rw second at l;
-        slave-rows = rw third at s;
-        events-good = rw third at (p .events-good);
+        second = h .second;
+        levels = levels .setup;
+        level-rows = l;
+        slave-rows = rw good s;
+        events-good = rw good (p .events-good);
         whole = p .whole;
       }
 
@@ -180,15 +203,45 @@ module _ (list : List ℕ) where
   -- The set-up of a valid list keeps the frame, for every master length of 1 to 65,536.
   pub setup-framed : (master : ℕ) {end : ℕ} → sheet (listAt list) (length list) ≡ Good end → 1 ≤ master → master ≤ storeMost
       → isFramed (setupOf list master) ≡ true
-  unfolding isFramed isMasterLength levelsFit slavesFit setupOf levelsOf slavesOf levelCount slaveCount
+  unfolding isFramed isMasterLength levelsFit slavesFit setupOf
   setup-framed master g low high =
       let p = places g in
-      and-both _ _
-      (whole-fits levels 1 levels-steady (p .level-rows) (λ t. t .count) (level-count 2 (levelCount list)) (levelsOf list) refl)
-      (and-both _ _
-      (whole-fits slaves (slavesFrom list) slaves-steady (p .slave-rows) (λ t. t .count)
-      (slave-count (slavesFrom list + 1) (slaveCount list)) (slavesOf list) refl)
-      (and-both _ _ (le-leb 1 master low) (le-leb master storeMost high)))
+      let levels : levelsFit (headOf list .setup .levels) ≡ true =
+      rw (p .slave-rows .others Levels other-kind) (whole-fits Levels (p .levels) (p .level-rows)) in
+      and-both _ _ levels
+      (and-both _ _ (whole-fits Slaves (headOf list .setup) (p .slave-rows)) (and-both _ _ (le-leb 1 master low) (le-leb master storeMost high)))
+
+  -- the counts, where they stand, and the rows by their indices
+  abbrev pub levelCount : ℕ
+  levelCount = getD list 1 0
+
+  abbrev pub slavesFrom : ℕ
+  slavesFrom = 2 + levelCount * 3
+
+  abbrev pub slaveCount : ℕ
+  slaveCount = getD list slavesFrom 0
+
+  pub record Indexed : Type 0 where
+    pub levels : headOf list .setup .levels .count ≡ levelCount
+    pub level : (j : ℕ) → j < levelCount → levelAt (headOf list .setup .levels) j ≡ levelFrom (numbers (listAt list) 3 (2 + j * 3))
+    pub slaves : headOf list .setup .slaves .count ≡ slaveCount
+    pub slave : (j : ℕ) → j < slaveCount
+        → slaveAt (headOf list .setup .slaves) j ≡ slaveFrom (numbers (listAt list) 5 (slavesFrom + 1 + j * 5))
+    pub events : eventsFrom list ≡ slavesFrom + 1 + slaveCount * 5
+
+  pub indexed : {end : ℕ} → sheet (listAt list) (length list) ≡ Good end → Indexed
+  indexed g =
+      let p = places g in
+      let same = p .slave-rows .others Levels other-kind in
+      let second : p .second ≡ slavesFrom = p .level-rows .ends in
+      let slave-rows : Section Slaves (p .levels) slavesFrom (eventsFrom list) (headOf list .setup) = rw second at (p .slave-rows) in
+      record {
+        levels = ap (λ (t : LevelRows). t .count) same ∙ p .level-rows .count;
+        level = λ j h. ap (λ (t : LevelRows). levelAt t j) same ∙ p .level-rows .row j h;
+        slaves = slave-rows .count;
+        slave = slave-rows .row;
+        events = slave-rows .ends;
+      }
 
 -- What was read from a sheet holds a set-up that keeps the frame.
 pub read-framed : (bytes out : List ℕ) (master : ℕ) {n : ℕ} → Bytes bytes → readAnswer bytes (length out) ≡ Done n → 1 ≤ master

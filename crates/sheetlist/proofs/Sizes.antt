@@ -21,32 +21,24 @@ use Rattle.frame.specs.Frame.{noLevel, noSlave, levelAt, slaveAt, present, leng
 use Rattle.frame.specs.Find.{slaveStoreLength}
 use Rattle.frame.proofs.FrameLaws.{LevelFacts, SlaveFacts, level-count, level-row-facts, limit-most, framed-levels, framed-slaves}
 use Rattle.frame.proofs.SlaveLaws.{slave-count, slave-row-facts, row-inside, store-most}
-use Rattle.sheet.specs.declared.Judged.the-variants.{Good}
-use Rattle.sheet.specs.Sheet.{listAt, numbers, Rows, levelOf, slaveOf, levels, slaves, sheet, numbersOf, allBytes}
+use Rattle.numbers.specs.declared.Part.the-variants.{Good}
+use Rattle.numbers.specs.Numbers.{listAt, numbers, numbersOf, allBytes}
+use Rattle.numbers.proofs.Laws.{in-range, stands}
+use Rattle.numbers.proofs.RoundTrip.{place, place-on, place-end}
+use Rattle.frame.specs.declared.LevelRows.{LevelRows}
+use Rattle.frame.specs.declared.SlaveRows.{SlaveRows}
+use Rattle.frame.specs.Kind.{levelFrom, slaveFrom}
+use Rattle.sheet.specs.Sheet.{headOf, sheet}
 use Rattle.refusal.specs.declared.Refusal.the-variants.{BadEdition}
-use Rattle.sheet.proofs.Laws.{in-range, stands}
 use Rattle.sheet.proofs.Parts.{sheet-parts}
-use Rattle.sheet.proofs.RoundTrip.{place, place-on, place-end, bytes-back}
+use Rattle.sheet.proofs.RoundTrip.{bytes-back}
 use Rattle.sheet.proofs.Calls.{list-good}
-use Rattle.sheetlist.specs.Held.{
-  levelCount,
-  slavesFrom,
-  slaveCount,
-  eventsFrom,
-  eventCount,
-  table,
-  levelsOf,
-  slavesOf,
-  setupOf,
-  isSteps,
-  eventFrom,
-}
+use Rattle.sheetlist.specs.Held.{eventsFrom, eventCount, setupOf, isSteps, eventFrom}
 use Rattle.sheetlist.proofs.HeldLaws.{listed-at, listed-first}
-use Rattle.sheetlist.proofs.Steady.{level-kept, slave-kept}
-use Rattle.sheetlist.proofs.Framed.{setup-framed, levels-counted, slaves-counted}
+use Rattle.sheetlist.proofs.Framed.{Indexed, levelCount, slavesFrom, slaveCount, indexed, setup-framed}
 use Rattle.sheetlist.proofs.EventLaws.{event-each, few-events, events-end, next-steps, next-post}
 
--- 128, 16,384, ..: the numbers below have so many bytes at most
+-- 128, 16,384, ..: a number below it has at most 1, 2, .. bytes
 abbrev tops : ℕ → ℕ
 tops zero = 128
 tops (suc j) = 128 * tops j
@@ -78,70 +70,39 @@ module _ (list : List ℕ) where
   grows-five : (i next : ℕ) → next ≡ i + 1 → place list next ≤ place list i + 5
   grows-five i next e = omega (arith, grows-any i next e, bytes-most (getD list i 0))
 
-  -- the rows of a table are those that were put there
-  module _ {A : Type 0} (kind : Rows) (from count : ℕ) (rowAt : kind .Table → ℕ → A) (rowOf : List ℕ → A)
-      (put : (i : ℕ) (row : List ℕ) → i < rowsMost → rowAt (kind .put (table kind list from count i) i row) i ≡ rowOf row)
-      (kept : (t : kind .Table) (i j : ℕ) (row : List ℕ) → j < i → rowAt (kind .put t i row) j ≡ rowAt t j) where
-    table-row : (n j : ℕ) → j < n → n ≤ rowsMost
-        → rowAt (table kind list from count n) j ≡ rowOf (numbers (listAt list) (kind .size) (from + j * kind .size))
-    table-row zero j h m = absurd (omega arith)
-    table-row (suc n) j h m =
-        let row = numbers (listAt list) (kind .size) (from + n * kind .size) in
-        ⊎-elim
-        (λ e. rw e (put n row m))
-        (λ l. kept (table kind list from count n) n j row l ∙ table-row n j l (omega arith))
-        (eq-or-lt-of-le (le-of-suc-le-suc h))
+  abbrev levelsOf : LevelRows
+  levelsOf = headOf list .setup .levels
 
-  level-length : (from count i : ℕ) → length (table levels list from count i .rows) ≡ rowsMost
-  level-length from count zero = refl
-  level-length from count (suc i) = simp length-set (level-length from count i)
-
-  slave-length : (from count i : ℕ) → length (table slaves list from count i .rows) ≡ rowsMost
-  slave-length from count zero = refl
-  slave-length from count (suc i) = simp length-set (slave-length from count i)
-
-  level-row : (from count n j : ℕ) → j < n → n ≤ rowsMost
-      → levelAt (table levels list from count n) j ≡ levelOf (numbers (listAt list) 3 (from + j * 3))
-  level-row from count =
-      table-row levels from count levelAt levelOf
-      (λ i row h. getD-set-same (table levels list from count i .rows) i (levelOf row) noLevel (omega (arith, level-length from count i)))
-      (λ t i j row h. level-kept t i j (levelOf row) h)
-
-  slave-row : (from count n j : ℕ) → j < n → n ≤ rowsMost
-      → slaveAt (table slaves list from count n) j ≡ slaveOf (numbers (listAt list) 5 (from + j * 5))
-  slave-row from count =
-      table-row slaves from count slaveAt slaveOf
-      (λ i row h. getD-set-same (table slaves list from count i .rows) i (slaveOf row) noSlave (omega (arith, slave-length from count i)))
-      (λ t i j row h. slave-kept t i j (slaveOf row) h)
+  abbrev slavesOf : SlaveRows
+  slavesOf = headOf list .setup .slaves
 
   module _ {end : ℕ} (valid : sheet (listAt list) (length list) ≡ Good end) where
-    levels-framed : levelsFit (levelsOf list) ≡ true
+    levels-framed : levelsFit levelsOf ≡ true
     unfolding setupOf
     levels-framed = framed-levels (setupOf list 1) (setup-framed list 1 valid (omega arith) (omega arith))
 
-    slaves-framed : slavesFit (slavesOf list) ≡ true
+    slaves-framed : slavesFit slavesOf ≡ true
     unfolding setupOf
     slaves-framed = framed-slaves (setupOf list 1) (setup-framed list 1 valid (omega arith) (omega arith))
 
+    rows : Indexed list
+    rows = indexed list valid
+
     few-levels : levelCount list ≤ rowsMost
-    few-levels = omega (arith, level-count (levelsOf list) levels-framed, levels-counted list)
+    few-levels = omega (arith, level-count levelsOf levels-framed, rows .levels)
 
     few-slaves : slaveCount list ≤ rowsMost
-    few-slaves = omega (arith, slave-count (slavesOf list) slaves-framed, slaves-counted list)
+    few-slaves = omega (arith, slave-count slavesOf slaves-framed, rows .slaves)
 
-    level-facts : (j : ℕ) → j < levelCount list → LevelFacts (levelOf (numbers (listAt list) 3 (2 + j * 3)))
-    unfolding levelsOf
-    level-facts j h =
-        rw (level-row 2 (levelCount list) (present (levelCount list)) j (omega (arith, few-levels)) (omega arith))
-        at (level-row-facts (levelsOf list) levels-framed j (omega (arith, levels-counted list)))
+    level-facts : (j : ℕ) → j < levelCount list → LevelFacts (levelFrom (numbers (listAt list) 3 (2 + j * 3)))
+    level-facts j h = rw (rows .level j h) at (level-row-facts levelsOf levels-framed j (omega (arith, rows .levels)))
 
-    slave-at : (j : ℕ) → j < slaveCount list → slaveAt (slavesOf list) j ≡ slaveOf (numbers (listAt list) 5 (slavesFrom list + 1 + j * 5))
-    unfolding slavesOf
-    slave-at j h = slave-row (slavesFrom list + 1) (slaveCount list) (present (slaveCount list)) j (omega (arith, few-slaves)) (omega arith)
+    slave-at : (j : ℕ) → j < slaveCount list → slaveAt slavesOf j ≡ slaveFrom (numbers (listAt list) 5 (slavesFrom list + 1 + j * 5))
+    slave-at j h = rows .slave j h
 
     -- the level rows
     levels-sized : (j : ℕ) → j ≤ levelCount list → place list (2 + j * 3) ≤ 2 + j * 3
-    unfolding place levelCount
+    unfolding place
     levels-sized zero h =
         let p = sheet-parts (listAt list) (length list) valid in
         let r = in-range (listAt list) 1 1 BadEdition 0 (p .edition-good) in
@@ -159,44 +120,44 @@ module _ (list : List ℕ) where
           levels-sized j (omega arith),
           grows 0 at (at + 1) (omega arith) refl (omega (arith, f .level, listed-first list 3 at (omega arith))),
           grows 0 (at + 1) (at + 2) (omega arith) (omega arith)
-              (omega (arith, width-some (levelOf (numbers (listAt list) 3 at) .width) (f .width), listed-at list 3 at 1 (omega arith))),
+              (omega (arith, width-some (levelFrom (numbers (listAt list) 3 at) .width) (f .width), listed-at list 3 at 1 (omega arith))),
           grows 0 (at + 2) (2 + suc j * 3) (omega arith) (omega arith) (omega (arith, f .options, listed-at list 3 at 2 (omega arith))),
         )
 
     -- the slave rows: 10 bytes each, and one more for each length of 16,384 or more, which takes 16,380 more than the least length
     record Sized (j : ℕ) : Type 0 where
       long : ℕ
-      lengths : 16380 * long + 4 * j ≤ lengthsBefore (slavesOf list) j
+      lengths : 16380 * long + 4 * j ≤ lengthsBefore slavesOf j
       bytes : place list (slavesFrom list + 1 + j * 5) ≤ place list (slavesFrom list + 1) + 10 * j + long
 
     -- the numbers of slave row j, by their indices
     record SlaveNumbers (j at : ℕ) : Type 0 where
       space : getD list at 0 < 128
       base : getD list (at + 1) 0 < 268435456
-      length-is : slaveAt (slavesOf list) j .length ≡ getD list (at + 2) 0
+      length-is : slaveAt slavesOf j .length ≡ getD list (at + 2) 0
       least : 4 ≤ getD list (at + 2) 0
-      most : lengthsBefore (slavesOf list) j + getD list (at + 2) 0 ≤ storeMost
+      most : lengthsBefore slavesOf j + getD list (at + 2) 0 ≤ storeMost
       port : getD list (at + 3) 0 < 128
       time : getD list (at + 4) 0 < 16384
 
     slave-numbers : (j : ℕ) → j < slaveCount list → SlaveNumbers j (slavesFrom list + 1 + j * 5)
     slave-numbers j h =
         let at = slavesFrom list + 1 + j * 5 in
-        let row = slaveOf (numbers (listAt list) 5 at) in
-        let there : j < slavesOf list .count = omega (arith, slaves-counted list) in
-        let f : SlaveFacts row = rw (slave-at j h) at (slave-row-facts (slavesOf list) slaves-framed j there) in
+        let row = slaveFrom (numbers (listAt list) 5 at) in
+        let there : j < slavesOf .count = omega (arith, rows .slaves) in
+        let f : SlaveFacts row = rw (slave-at j h) at (slave-row-facts slavesOf slaves-framed j there) in
         let n0 : row .space ≡ getD list at 0 = listed-first list 5 at (omega arith) in
         let n1 : row .base ≡ getD list (at + 1) 0 = listed-at list 5 at 1 (omega arith) in
         let n2 : row .length ≡ getD list (at + 2) 0 = listed-at list 5 at 2 (omega arith) in
         let n3 : row .port ≡ getD list (at + 3) 0 = listed-at list 5 at 3 (omega arith) in
         let n4 : row .time ≡ getD list (at + 4) 0 = listed-at list 5 at 4 (omega arith) in
-        let own : slaveAt (slavesOf list) j .length ≡ row .length = ap (λ (r : SlaveRow). r .length) (slave-at j h) in
+        let own : slaveAt slavesOf j .length ≡ row .length = ap (λ (r : SlaveRow). r .length) (slave-at j h) in
         record {
           space = omega (arith, f .space);
           base = omega (arith, f .end, limit-most (row .space));
           length-is = own ∙ n2;
           least = omega (arith, f .some, f .length);
-          most = omega (arith, row-inside (slavesOf list) slaves-framed j there, store-most (slavesOf list) slaves-framed);
+          most = omega (arith, row-inside slavesOf slaves-framed j there, store-most slavesOf slaves-framed);
           port = omega (arith, port-some (row .port) (f .port));
           time = omega (arith, f .slowest);
         }
@@ -258,17 +219,17 @@ module _ (list : List ℕ) where
 
     -- The bytes of a valid list are at most 31,960.
     pub bytes-whole : length (allBytes list) ≤ 31960
-    unfolding slavesFrom eventsFrom slaveCount eventCount slaveStoreLength
+    unfolding eventCount slaveStoreLength
     bytes-whole =
         let n = levelCount list in
         let m = slaveCount list in
         let s = slaves-sized m (omega arith) in
         let second : place list (slavesFrom list) ≡ place list (2 + n * 3) = ap (place list) (omega arith) in
-        let third : place list (eventsFrom list) ≡ place list (slavesFrom list + 1 + m * 5) = ap (place list) (omega arith) in
+        let third : place list (eventsFrom list) ≡ place list (slavesFrom list + 1 + m * 5) = ap (place list) (omega (arith, rows .events)) in
         let last : place list (eventFrom list (eventCount list)) ≡ length (allBytes list) =
         ap (place list) (events-end list valid) ∙ place-end list (length list) (omega arith) in
-        let all : present (slavesOf list .count) ≡ m = omega (arith, slaves-counted list, few-slaves) in
-        let lengths : lengthsBefore (slavesOf list) m ≤ storeMost = rw all at (store-most (slavesOf list) slaves-framed) in
+        let all : present (slavesOf .count) ≡ m = omega (arith, rows .slaves, few-slaves) in
+        let lengths : lengthsBefore slavesOf m ≤ storeMost = rw all at (store-most slavesOf slaves-framed) in
         omega (
           arith,
           levels-sized n (omega arith),

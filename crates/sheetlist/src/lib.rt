@@ -1,27 +1,21 @@
 // What the list of a valid sheet holds (document 01, "The job sheet"): its set-up and its events. Every call takes any
 // list; of one that no valid sheet has, the answer is of no interest.
-use basics::ROWS_MOST;
-use basics::ROWS_MOST_U32;
-use frame::LevelRow;
-use frame::LevelRows;
 use frame::Order;
 use frame::Setup;
-use frame::SlaveRow;
-use frame::SlaveRows;
+use numbers::Part;
 ghost use mathlib.Core.Path.{_≡_};
-ghost use Prim.Native.Nat.{_≤_, _<_};
-ghost use lib.ListN.{getD};
-ghost use Rattle.sheet.specs.Sheet.{listAt, numbers, levelOf, slaveOf};
-ghost use Rattle.sheetlist.specs.Held.{slavesFrom, eventsFrom, levelsOf, slavesOf, setupOf};
+ghost use Prim.Native.Nat.{_+_, _≤_, _<_};
+ghost use lib.ListN.{length, getD};
+ghost use Rattle.sheetlist.specs.Held.{eventsFrom, setupOf};
 ghost use Rattle.sheetlist.specs.Held.{eventCount, firstEvent, postAt, eventAt, nextEvent, eventOf};
 
-// So many steps, or a post.
+// A number of steps, or a post.
 pub enum Event {
     Steps(u32),
     Post(Order),
 }
 
-// The number at an index; 0 behind the end.
+// The number at an index; 0 past the end.
 fn number_in(list: &[u32], i: usize) -> u32
     ensures { λ r. ⌜ r ≡ getD (now (list .entry)) i 0 ⌝ }
 {
@@ -31,106 +25,31 @@ fn number_in(list: &[u32], i: usize) -> u32
     0
 }
 
-// The index of the slave count.
-fn slaves_from(list: &[u32]) -> usize
-    ensures { λ r. ⌜ r ≡ slavesFrom (now (list .entry)) ⌝ }
-    ensures { λ r. ⌜ r ≤ 12884901887 ⌝ }
+// The set-up, with a master length that the sheet does not have.
+pub fn setup_of(list: &[u32], master: u32) -> Setup
+    ensures { λ r. ⌜ r ≡ setupOf (now (list .entry)) master ⌝ }
 {
-    2 + 3 * number_in(list, 1) as usize
+    let rows = sheet::head_of(list);
+    let setup = rows.setup;
+    let levels = setup.levels;
+    let slaves = setup.slaves;
+    Setup {
+        levels,
+        slaves,
+        master,
+    }
 }
 
 // The index of the event count.
 fn events_from(list: &[u32]) -> usize
     ensures { λ r. ⌜ r ≡ eventsFrom (now (list .entry)) ⌝ }
-    ensures { λ r. ⌜ r ≤ 34359738363 ⌝ }
+    ensures { λ r. ⌜ r ≤ length (now (list .entry)) + 1 ⌝ }
 {
-    let from = slaves_from(list);
-    from + 1 + 5 * number_in(list, from) as usize
-}
-
-// The level row that begins at an index.
-fn level_in(list: &[u32], at: usize) -> LevelRow
-    requires { ⌜ at ≤ 12884901968 ⌝ }
-    ensures { λ r. ⌜ r ≡ levelOf (numbers (listAt (now (list .entry))) 3 at) ⌝ }
-{
-    LevelRow {
-        level: number_in(list, at),
-        width: number_in(list, at + 1),
-        options: number_in(list, at + 2),
-    }
-}
-
-// The slave row that begins at an index.
-fn slave_in(list: &[u32], at: usize) -> SlaveRow
-    requires { ⌜ at ≤ 12884901968 ⌝ }
-    ensures { λ r. ⌜ r ≡ slaveOf (numbers (listAt (now (list .entry))) 5 at) ⌝ }
-{
-    SlaveRow {
-        space: number_in(list, at),
-        base: number_in(list, at + 1),
-        length: number_in(list, at + 2),
-        port: number_in(list, at + 3),
-        time: number_in(list, at + 4),
-    }
-}
-
-// The level rows, as many as there are places for.
-fn levels_of(list: &[u32]) -> LevelRows
-    ensures { λ r. ⌜ r ≡ levelsOf (now (list .entry)) ⌝ }
-{
-    let count = number_in(list, 1);
-    let present = basics::smaller(count, ROWS_MOST_U32) as usize;
-    let none = LevelRow {
-        level: 0,
-        width: 0,
-        options: 0,
-    };
-    let mut rows = [none; ROWS_MOST];
-    let mut i: usize = 0;
-    while i < present {
-        let row = level_in(list, 2 + i * 3);
-        rows[i] = row;
-        i += 1;
-    }
-    let count = count as usize;
-    LevelRows { rows, count }
-}
-
-// The slave rows, as many as there are places for.
-fn slaves_of(list: &[u32]) -> SlaveRows
-    ensures { λ r. ⌜ r ≡ slavesOf (now (list .entry)) ⌝ }
-{
-    let from = slaves_from(list);
-    let count = number_in(list, from);
-    let present = basics::smaller(count, ROWS_MOST_U32) as usize;
-    let none = SlaveRow {
-        space: 0,
-        base: 0,
-        length: 0,
-        port: 0,
-        time: 0,
-    };
-    let mut rows = [none; ROWS_MOST];
-    let mut i: usize = 0;
-    while i < present {
-        let row = slave_in(list, from + 1 + i * 5);
-        rows[i] = row;
-        i += 1;
-    }
-    let count = count as usize;
-    SlaveRows { rows, count }
-}
-
-// The set-up, with a master length that the sheet does not have.
-pub fn setup_of(list: &[u32], master: u32) -> Setup
-    ensures { λ r. ⌜ r ≡ setupOf (now (list .entry)) master ⌝ }
-{
-    let levels = levels_of(list);
-    let slaves = slaves_of(list);
-    Setup {
-        levels,
-        slaves,
-        master,
+    let rows = sheet::head_of(list);
+    let part = rows.part;
+    match part {
+        Part::Good(at) => at,
+        Part::Fault(_, _) => list.len(),
     }
 }
 

@@ -1,16 +1,18 @@
+use Rattle.sheet.specs.declared.RowsRead.{RowsRead}
 use Rattle.sheetlist.specs.Held.{setupOf}
 use borrow.Author.Needs.{needs}
+use mathlib.Core.Path.{ap}
+use Rattle.frame.specs.declared.Setup.{Setup}
 use Rattle.sheetlist.proofs.setup_of.Statement.{statement}
 use Rattle.sheetlist.proofs.setup_of.Tie as tie
 
 returns : tie.Need-returns
 unfolding setupOf
-returns c = rw (c .before .levels-of .ensures, c .slaves-of .ensures)
+returns c = rw (c .before .before .before .head-of .ensures)
 
 pub setup-of-spec : {M : Type 1} → statement M
 setup-of-spec =
     tie.close
     (tie.spec
-    (λ c κs. search needs)  -- levels-of-requires
-    (λ c κs. search needs)  -- slaves-of-requires
+    (λ c κs. search needs)  -- head-of-requires
     returns)
