@@ -13,6 +13,7 @@ use Rattle.frame.specs.Find.{StartFits}
 use Rattle.refusal.proofs as refusal
 use Rattle.basics.proofs as basics
 use Rattle.number.proofs as number
+use Rattle.numbers.proofs as numbers
 use Rattle.cycle.proofs as cycle
 use Rattle.frame.proofs as frame
 use Rattle.channel.proofs as channel
@@ -62,6 +63,25 @@ module _ {M : Type 1} (𝓤 : URA M) (H : Heap 𝓤) (A : Atoms 𝓤) (mem : Mem
     λ κs a g. lent-one 𝓤 _ _ (λ ws. ws .0) (λ v w p i. (p i, (tt, (tt, tt)))),
   )
 
+  of-numbers : One numbers.number_at.ended numbers.number_at.clauses
+      × One numbers.length_of.ended numbers.length_of.clauses
+      × One numbers.number_between.ended numbers.number_between.clauses
+      × One numbers.numbers_at.ended numbers.numbers_at.clauses
+      × One numbers.count_numbers.ended numbers.count_numbers.clauses
+      × One numbers.copy_numbers.ended numbers.copy_numbers.clauses
+      × One numbers.bytes_size.ended numbers.bytes_size.clauses
+      × One numbers.write_numbers.ended numbers.write_numbers.clauses
+  of-numbers = (
+    λ κs a g. alone 𝓤 _ (λ v w. refl),
+    λ κs a g. alone 𝓤 _ (λ v w. refl),
+    λ κs a g. alone 𝓤 _ (λ v w. refl),
+    λ κs a g. alone 𝓤 _ (λ v w. refl),
+    λ κs a g. alone 𝓤 _ (λ v w. refl),
+    λ κs a g. lent-one 𝓤 _ _ (λ ws. ws .1 .0) (λ v w p i. (tt, (p i, tt))),
+    λ κs a g. alone 𝓤 _ (λ v w. refl),
+    λ κs a g. lent-one 𝓤 _ _ (λ ws. ws .1 .0) (λ v w p i. (tt, (p i, (tt, tt)))),
+  )
+
   of-cycle : One cycle.is_width.ended cycle.is_width.clauses
       × One cycle.is_port.ended cycle.is_port.clauses
       × One cycle.is_length.ended cycle.is_length.clauses
@@ -96,9 +116,13 @@ module _ {M : Type 1} (𝓤 : URA M) (H : Heap 𝓤) (A : Atoms 𝓤) (mem : Mem
       × One frame.is_row_count.ended frame.is_row_count.clauses
       × One frame.is_master_length.ended frame.is_master_length.clauses
       × One frame.level_fits.ended frame.level_fits.clauses
-      × One frame.level_row_fits.ended frame.level_row_fits.clauses
       × One frame.levels_fit.ended frame.levels_fit.clauses
-      × One frame.slave_row_fits.ended frame.slave_row_fits.clauses
+      × One frame.row_fits.ended frame.row_fits.clauses
+      × One frame.no_rows.ended frame.no_rows.clauses
+      × One frame.row_size.ended frame.row_size.clauses
+      × One frame.bad_rows.ended frame.bad_rows.clauses
+      × One frame.with_count.ended frame.with_count.clauses
+      × One frame.put_row.ended frame.put_row.clauses
       × One frame.slave_store.ended frame.slave_store.clauses
       × One frame.framed_store.ended frame.framed_store.clauses
       × One frame.is_framed.ended frame.is_framed.clauses
@@ -113,6 +137,10 @@ module _ {M : Type 1} (𝓤 : URA M) (H : Heap 𝓤) (A : Atoms 𝓤) (mem : Mem
       × One frame.slave_store_length.ended frame.slave_store_length.clauses
       × One frame.place_of.ended frame.place_of.clauses
   of-frame = (
+    λ κs a g. alone 𝓤 _ (λ v w. refl),
+    λ κs a g. alone 𝓤 _ (λ v w. refl),
+    λ κs a g. alone 𝓤 _ (λ v w. refl),
+    λ κs a g. alone 𝓤 _ (λ v w. refl),
     λ κs a g. alone 𝓤 _ (λ v w. refl),
     λ κs a g. alone 𝓤 _ (λ v w. refl),
     λ κs a g. alone 𝓤 _ (λ v w. refl),
@@ -250,9 +278,11 @@ module _ {M : Type 1} (𝓤 : URA M) (H : Heap 𝓤) (A : Atoms 𝓤) (mem : Mem
     λ κs a g. lent-one 𝓤 _ _ (λ ws. ws .0) (λ v w p i. (p i, (tt, (tt, (tt, tt))))),
   )
 
-  of-sheet : One sheet.read_sheet.ended sheet.read_sheet.clauses
+  of-sheet : One sheet.head_of.ended sheet.head_of.clauses
+      × One sheet.read_sheet.ended sheet.read_sheet.clauses
       × One sheet.write_sheet.ended sheet.write_sheet.clauses
   of-sheet = (
+    λ κs a g. alone 𝓤 _ (λ v w. refl),
     λ κs a g. lent-one 𝓤 _ _ (λ ws. ws .1 .0) (λ v w p i. (tt, (p i, tt))),
     λ κs a g. lent-one 𝓤 _ _ (λ ws. ws .1 .0) (λ v w p i. (tt, (p i, tt))),
   )

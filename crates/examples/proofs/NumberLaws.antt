@@ -15,9 +15,12 @@ use Rattle.refusal.specs.Refusal.{numberOf, refusalBy, refusedBy, verdictNumber
 use Rattle.refusal.specs.declared.Verdict.{Verdict}
 use Rattle.refusal.specs.declared.Verdict.the-variants.{Accepted, Refused}
 use Rattle.refusal.proofs.NumberLaws.{not-zero}
-use Rattle.number.specs.Number.{hasRoom, writtenAt, writtenNumbers}
+use Rattle.number.specs.Number.{hasRoom, wholeAt, writtenNumbers}
 use Rattle.cycle.specs.Cycle.{isLength, isWidth, isPort, cycleCount}
 use Rattle.frame.specs.declared.Setup.{Setup}
+use Rattle.frame.specs.declared.RowKind.{RowKind}
+use Rattle.frame.specs.declared.RowKind.the-variants.{Levels, Slaves}
+use Rattle.frame.specs.Kind.{badRows}
 use Rattle.frame.specs.Rows.{isPresent}
 use Rattle.channel.specs.declared.Phase.{Phase}
 use Rattle.channel.specs.declared.Phase.the-variants.{Arbitrating, Granted}
@@ -44,11 +47,12 @@ use Rattle.step.proofs.PlanLaws.{ready-is}
 use Rattle.step.specs.Run.{World, Out, ended, stepIn, after, goOn, runFrom, runOf}
 use Rattle.step.specs.Log.{Page, lined, LoggedOut, closed, logOn, logFrom, logOf}
 use Rattle.step.proofs.TurnLaws.{ready-next}
-use Rattle.sheet.specs.declared.Judged.{Judged}
-use Rattle.sheet.specs.declared.Judged.the-variants.{Good, Fault}
+use Rattle.numbers.specs.declared.Part.{Part}
+use Rattle.numbers.specs.declared.Part.the-variants.{Good, Fault}
 use Rattle.sheet.specs.Sheet.{answered, sheetNumbers}
 use Rattle.examples.specs.Numbers.{
   Row,
+  badTold,
   firstOf,
   broken,
   unsound,
@@ -156,11 +160,14 @@ unfolding stepOf
 step-number setup ch t slave master =
     as-planned setup ch (planOf setup ch (length slave) (length master)) ∙ plan-number setup ch (length slave) (length master)
 
-pub written-told : (s : List ℕ) (at v : ℕ) → writtenNumbers (writtenAt s at v) ≡ writtenTold s at v
-unfolding writtenAt
-written-told s at v = by-test (hasRoom s at (bytesOf v)) (λ t. rw t) (λ f. rw f)
+pub written-told : (s : List ℕ) (at : ℕ) (what : List ℕ) → writtenNumbers (wholeAt s at what) ≡ writtenTold s at what
+written-told s at what = by-test (hasRoom s at what) (λ t. rw t) (λ f. rw f)
 
-pub sheet-told : (j : Judged) (need room : ℕ) → sheetNumbers (answered j need room) ≡ sheetTold j need room
+pub bad-told : (kind : RowKind) → numberOf (badRows kind) ≡ badTold kind
+bad-told Levels = refl
+bad-told Slaves = refl
+
+pub sheet-told : (j : Part) (need room : ℕ) → sheetNumbers (answered j need room) ≡ sheetTold j need room
 sheet-told (Good end) need room = by-test (leb need room) (λ t. rw t) (λ f. rw f)
 sheet-told (Fault why place) need room = refl
 

@@ -15,11 +15,12 @@ use contract.Monad.{Fun, fact, fact-mono}
 use contract.Lifetimes.{Lfts}
 use denote.Triple.Entry.{Args, Res}
 use denote.Triple.Clauses.{Ended, Lasts, atExit}
-use Rattle.refusal.specs.Refusal.{verdictNumber}
+use Rattle.refusal.specs.Refusal.{numberOf, verdictNumber}
+use Rattle.refusal.specs.declared.Refusal.{Refusal}
 use Rattle.refusal.specs.declared.Verdict.{Verdict}
 use Rattle.number.specs.declared.NumberRead.{NumberRead}
 use Rattle.number.specs.declared.NumberWritten.{NumberWritten}
-use Rattle.number.specs.Number.{readAt, readNumbers, writtenNumbers}
+use Rattle.number.specs.Number.{readAt, readNumbers, bytesOf, writtenAt, writtenNumbers}
 use Rattle.cycle.specs.declared.Counted.{Counted}
 use Rattle.channel.specs.declared.Judged.{Judged}
 use Rattle.channel.specs.Channel.{Shaped}
@@ -32,11 +33,16 @@ use Rattle.step.specs.Step.{planNumbers, stepNumbers, decisionOf}
 use Rattle.step.specs.Run.{world}
 use Rattle.step.specs.Log.{page}
 use Rattle.sheet.specs.declared.SheetAnswer.{SheetAnswer}
-use Rattle.sheet.specs.Sheet.{sheet as judged, listAt, numbersOf, allBytes, readAnswer, writeAnswer, sheetNumbers}
+use Rattle.numbers.specs.declared.Taken.{Taken}
+use Rattle.numbers.specs.Numbers.{listAt, numberAt, numberBetween, numbersAt, partNumbers, numbersOf, allBytes, copyNumbers, writeNumbers}
+use Rattle.sheet.specs.declared.RowsRead.{RowsRead}
+use Rattle.sheet.specs.Sheet.{sheet as judged, headOf, readAnswer, writeAnswer, sheetNumbers}
 use Rattle.number.proofs as number
+use Rattle.numbers.proofs as numbers
 use Rattle.cycle.proofs as cycle
 use Rattle.channel.proofs as channel
 use Rattle.sound.proofs as sound
+use Rattle.frame.proofs as frame
 use Rattle.post.proofs as post
 use Rattle.step.proofs as step
 use Rattle.lent.proofs as lent
@@ -53,6 +59,7 @@ use Rattle.examples.specs.Numbers.{
   runRows,
   logRows,
   writtenTold,
+  badTold,
   sheetTold,
 }
 use Rattle.examples.proofs.Unique.{Contract}
@@ -68,6 +75,7 @@ use Rattle.examples.proofs.NumberLaws.{
   run-number,
   log-number,
   written-told,
+  bad-told,
   sheet-told,
 }
 
@@ -182,10 +190,43 @@ module _ {M : Type 1} (𝓤 : URA M) (H : Heap 𝓤) (A : Atoms 𝓤) (mem : Mem
       (λ κs a (r : NumberRead). readNumbers r ≡ readNumbers (readAt (a .0 .now) (a .1 .0)))
   of-read-number κs a g r ws = alone _ (λ (r : NumberRead). readNumbers r ≡ readNumbers (readAt (a .0 .now) (a .1 .0))) refl r
 
+  of-bad-rows : Tells frame.bad_rows.ended frame.bad_rows.clauses (λ κs a (r : Refusal). numberOf r ≡ badTold (a .0))
+  of-bad-rows κs a g r ws = alone _ (λ (r : Refusal). numberOf r ≡ _) (bad-told (a .0)) r
+
+  of-number-at : Tells numbers.number_at.ended numbers.number_at.clauses
+      (λ κs a (r : NumberRead). readNumbers r ≡ readNumbers (numberAt (a .1 .1 .0) (a .0 .now) (a .1 .0 .now) (a .1 .1 .1 .0)))
+  of-number-at κs a g r ws = alone _ (λ (r : NumberRead). readNumbers r ≡ _) refl r
+
+  of-number-between : Tells numbers.number_between.ended numbers.number_between.clauses
+      (λ κs a (r : NumberRead). readNumbers r ≡ readNumbers
+      (numberBetween (numberAt (a .1 .1 .0) (a .0 .now) (a .1 .0 .now)) (a .1 .1 .1 .0) (a .1 .1 .1 .1 .0) (a .1 .1 .1 .1 .1 .0) (a .1 .1 .1 .1 .1 .1 .0)))
+  of-number-between κs a g r ws = alone _ (λ (r : NumberRead). readNumbers r ≡ _) refl r
+
+  of-numbers-at : Tells numbers.numbers_at.ended numbers.numbers_at.clauses
+      (λ κs a (r : Taken). partNumbers (r .part)
+      ≡ partNumbers (numbersAt (numberAt (a .1 .1 .0) (a .0 .now) (a .1 .0 .now)) (a .1 .1 .1 .0) (a .1 .1 .1 .1 .0) .part))
+  of-numbers-at κs a g r ws = alone _ (λ (r : Taken). partNumbers (r .part) ≡ _) refl r
+
+  of-head : Tells sheet.head_of.ended sheet.head_of.clauses (λ κs a (r : RowsRead). partNumbers (r .part) ≡ partNumbers (headOf (a .0 .now) .part))
+  of-head κs a g r ws = alone _ (λ (r : RowsRead). partNumbers (r .part) ≡ _) refl r
+
   of-write-number : Tells number.write_number.ended number.write_number.clauses
-      (λ κs a (r : NumberWritten). writtenNumbers r ≡ writtenTold (a .0 .now) (a .1 .0) (a .1 .1 .0))
+      (λ κs a (r : NumberWritten). writtenNumbers r ≡ writtenTold (a .0 .now) (a .1 .0) (bytesOf (a .1 .1 .0)))
+  unfolding writtenAt
   of-write-number κs a g r ws =
-      lent-one _ (λ (r : NumberWritten). writtenNumbers r ≡ _) (written-told (a .0 .now) (a .1 .0) (a .1 .1 .0)) r _
+      lent-one _ (λ (r : NumberWritten). writtenNumbers r ≡ _) (written-told (a .0 .now) (a .1 .0) (bytesOf (a .1 .1 .0))) r _
+
+  of-copy-numbers : Tells numbers.copy_numbers.ended numbers.copy_numbers.clauses
+      (λ κs a (r : NumberWritten). writtenNumbers r ≡ writtenTold (a .1 .0 .now) 0 (numbersOf (a .0 .now)))
+  unfolding copyNumbers
+  of-copy-numbers κs a g r ws =
+      lent-one _ (λ (r : NumberWritten). writtenNumbers r ≡ _) (written-told (a .1 .0 .now) 0 (numbersOf (a .0 .now))) r _
+
+  of-write-numbers : Tells numbers.write_numbers.ended numbers.write_numbers.clauses
+      (λ κs a (r : NumberWritten). writtenNumbers r ≡ writtenTold (a .1 .0 .now) (a .1 .1 .0) (allBytes (a .0 .now)))
+  unfolding writeNumbers
+  of-write-numbers κs a g r ws =
+      lent-one _ (λ (r : NumberWritten). writtenNumbers r ≡ _) (written-told (a .1 .0 .now) (a .1 .1 .0) (allBytes (a .0 .now))) r _
 
   of-read-sheet : Tells sheet.read_sheet.ended sheet.read_sheet.clauses
       (λ κs a (r : SheetAnswer).

@@ -71,16 +71,12 @@ use Rattle.step.specs.Step.{stepOf, carryOf, movedSlave, movedMaster, slaveAfte
 use Rattle.step.specs.Run.{world, after, runFrom, runOf}
 use Rattle.act.specs.Entry.{cycleFields}
 use Rattle.number.specs.Number.{readAt, bytesOf}
-use Rattle.sheet.specs.declared.Judged.the-variants.{Good}
-use Rattle.sheet.specs.Sheet.{listAt, between, counted, stepCount, event, countedEvents, body, sheet, numbersOf, allBytes}
+use Rattle.numbers.specs.declared.Part.the-variants.{Good}
+use Rattle.numbers.specs.Numbers.{listAt, numberBetween, numbersOf, allBytes}
+use Rattle.sheet.specs.Sheet.{countedRows, head, headOf, stepCount, event, countedEvents, body, sheet}
 use Rattle.sheetlist.specs.Held.{
-  levelCount,
-  slavesFrom,
-  slaveCount,
   eventsFrom,
   eventCount,
-  levelsOf,
-  slavesOf,
   setupOf,
   eventAt,
   nextEvent,
@@ -182,8 +178,8 @@ pub record History : Type 0 where
 
 computed : Whole × (Lines × (Bursts × History))
 unfolding codes bytes
-    sheetPrint sheet body counted countedEvents event stepCount between numbersOf readAt bytesOf listAt
-    levelCount slavesFrom slaveCount eventsFrom eventCount levelsOf slavesOf setupOf eventAt nextEvent eventFrom eventOf
+    sheetPrint sheet body head headOf countedRows countedEvents event stepCount numberBetween numbersOf readAt bytesOf listAt
+    eventsFrom eventCount setupOf eventAt nextEvent eventFrom eventOf
     allBelow anyBelow firstFrom isLength isWidth isPort transferTime
     isRowCount isMasterLength levelInRange isRising isLastFifteen levelRowFits levelsFit isTime limitOf isPlaced slaveInRange areApart isApart
     lengthsBefore slaveRowFits slavesFit isFramed levelIndex levelRow holds slaveIndex slaveRow slaveStoreLength

@@ -7,10 +7,11 @@ use mathlib.Core.List.{List, [], _∷_}
 use lib.Dec.{eqb, leb, ltb}
 use lib.ListN.{length}
 use Rattle.refusal.specs.Refusal.{numberOf}
-use Rattle.number.specs.Number.{bytesOf, hasRoom}
 use Rattle.basics.specs.Limits.{clockLimit, memoryEnd, stepsMost}
 use Rattle.cycle.specs.Cycle.{isLength, isWidth, isPort}
 use Rattle.frame.specs.declared.Setup.{Setup}
+use Rattle.frame.specs.declared.RowKind.{RowKind}
+use Rattle.frame.specs.declared.RowKind.the-variants.{Levels, Slaves}
 use Rattle.frame.specs.Frame.{isFramed}
 use Rattle.frame.specs.Find.{slaveStoreLength}
 use Rattle.frame.specs.Rows.{isPresent}
@@ -28,8 +29,8 @@ use Rattle.act.specs.Turn.{arbitrationTime}
 use Rattle.logline.specs.Text.{hasRoom as lineRoom}
 use Rattle.step.specs.Run.{World, runOf}
 use Rattle.step.specs.Log.{Page, LoggedOut, logOf}
-use Rattle.sheet.specs.declared.Judged.{Judged}
-use Rattle.sheet.specs.declared.Judged.the-variants.{Good, Fault}
+use Rattle.numbers.specs.declared.Part.{Part}
+use Rattle.numbers.specs.declared.Part.the-variants.{Good, Fault}
 
 -- a row: the number, and whether what the paper says of it is so
 abbrev pub Row : Type 0
@@ -91,11 +92,16 @@ logRows setup budget w p =
     unsound setup (w .channel) ∷ otherLength setup (length (w .slave)) (length (w .master)) ∷ (7, ltb 65535 budget)
     ∷ (6, ltb (logOf setup budget w p .result .ran .steps) budget && roomLeft (logOf setup budget w p)) ∷ []
 
--- "17: place 0, the lent result is too short"; a number's 17 and its answer otherwise, the place past it
-abbrev pub writtenTold : List ℕ → ℕ → ℕ → List ℕ
-writtenTold s at v = cond (hasRoom s at (bytesOf v)) (0 ∷ (at + length (bytesOf v)) ∷ []) (17 ∷ 0 ∷ [])
+-- "17: place 0, the lent result is too short"; of what is written whole or not at all, 17, and otherwise the place past it
+abbrev pub writtenTold : List ℕ → ℕ → List ℕ → List ℕ
+writtenTold s at what = cond (leb (at + length what) (length s)) (0 ∷ (at + length what) ∷ []) (17 ∷ 0 ∷ [])
 
 -- "17 comes last": of a judged sheet the length of the result, or the number and the place of its fault
-abbrev pub sheetTold : Judged → ℕ → ℕ → List ℕ
+abbrev pub sheetTold : Part → ℕ → ℕ → List ℕ
 sheetTold (Good end) need room = cond (leb need room) (0 ∷ need ∷ []) (17 ∷ 0 ∷ [])
 sheetTold (Fault why place) need room = numberOf why ∷ place ∷ []
+
+-- "13: level count or row against the frame. 14: slave count or row against the frame."
+abbrev pub badTold : RowKind → ℕ
+badTold Levels = 13
+badTold Slaves = 14

@@ -14,9 +14,10 @@ use Rattle.step.specs.declared.StepAnswer.{StepAnswer}
 use Rattle.step.specs.declared.StepAnswer.the-variants.{Done, Refused}
 use Rattle.step.specs.Run.{World, world, stepIn, after}
 use Rattle.logline.specs.Line.{entryText, postText, stopText, endText, faultText}
-use Rattle.sheet.specs.declared.Judged.{Judged as Verdict}
-use Rattle.sheet.specs.declared.Judged.the-variants.{Good, Fault}
-use Rattle.sheet.specs.Sheet.{sheet, numbersOf}
+use Rattle.numbers.specs.declared.Part.{Part}
+use Rattle.numbers.specs.declared.Part.the-variants.{Good, Fault}
+use Rattle.numbers.specs.Numbers.{numbersOf}
+use Rattle.sheet.specs.Sheet.{sheet}
 use Rattle.sheetlist.specs.declared.Event.{Event}
 use Rattle.sheetlist.specs.declared.Event.the-variants.{Steps, Post}
 use Rattle.sheetlist.specs.Held.{setupOf, eventCount, eventOf}
@@ -75,7 +76,7 @@ abbrev pub listPrint : List ℕ → List ℕ
 listPrint list = eventsPrint (setupOf list 4096) (eventsOf list) (begun (setupOf list 4096))
 
 -- "A bad sheet prints only S, number, place."
-abbrev pub verdictPrint : Verdict → List ℕ → List ℕ
+abbrev pub verdictPrint : Part → List ℕ → List ℕ
 verdictPrint (Good end) list = listPrint list
 verdictPrint (Fault why place) list = faultText (numberOf why) place
 

@@ -16,7 +16,7 @@ use Rattle.frame.specs.declared.Setup.{Setup}
 use Rattle.frame.specs.declared.RowKind.{RowKind}
 use Rattle.frame.specs.declared.RowKind.the-variants.{Levels, Slaves}
 use Rattle.frame.specs.Frame.{noLevel, noSlave, levelAt, slaveAt, levelRowFits, isRising, isLastFifteen, slaveRowFits, isApart, areApart, lengthsBefore}
-use Rattle.frame.specs.Kind.{levelFrom, slaveFrom, withLevels, withSlaves, countOf, withCount, putRow, rowFits}
+use Rattle.frame.specs.Kind.{levelFrom, slaveFrom, countOf, withCount, putRow, rowFits}
 
 pub put-none : (setup : Setup) (kind : RowKind) (i : ℕ) (row : List ℕ) → length (setup .levels .rows) ≤ i → length (setup .slaves .rows) ≤ i
     → putRow setup kind i row ≡ setup

@@ -1,7 +1,7 @@
 -- Numbers in a row, one more at a time: where one more is due (`left` is one more than `k`), and where none is; their bytes from an index on. Assumes nothing.
 use Prim.Native.Nat.{ℕ, zero, suc, _+_, _-_, _≤_, _<_}
 use mathlib.Core.Path.{_≡_, refl, sym, ap, _∙_}
-use mathlib.Core.Bool.{true, false, _&&_}
+use mathlib.Core.Bool.{_&&_}
 use mathlib.Core.List.{List, [], _∷_, _++_}
 use native.Mathlib.Nat.{zero-add, add-zero}
 use native.Mathlib.Numerals.{add-one}
@@ -19,7 +19,7 @@ use Rattle.number.specs.declared.NumberWritten.the-variants.{Past, Refused as N
 use Rattle.number.specs.Number.{bytesOf}
 use Rattle.number.proofs.Laws.{no-number}
 use Rattle.numbers.specs.declared.Part.{Part}
-use Rattle.numbers.specs.declared.Part.the-variants.{Good, Fault}
+use Rattle.numbers.specs.declared.Part.the-variants.{Fault}
 use Rattle.numbers.specs.declared.Taken.{Taken}
 use Rattle.numbers.specs.Numbers.{Source, listAt, inRange, numberBetween, passed, followed, numbers, padded, taken, allBytes}
 

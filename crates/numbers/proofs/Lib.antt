@@ -3,3 +3,4 @@ pub mod Moved
 pub mod Runs
 pub mod Parts
 pub mod RoundTrip
+pub mod AnswerLaws

@@ -1,17 +1,14 @@
 -- What a good judgement is made of: each part that was judged is good. Assumes nothing.
-use Prim.Native.Nat.{ℕ, _≤_}
+use Prim.Native.Nat.{ℕ}
 use mathlib.Core.Path.{_≡_, refl}
 use mathlib.Core.Bool.{Bool, true, false, cond}
 use native.Mathlib.Omega.{arith}
-use borrow.Author.Tests.{ltb-false}
-use lib.Dec.{ltb}
 use Rattle.refusal.specs.declared.Refusal.{Refusal}
-use Rattle.refusal.specs.declared.Refusal.the-variants.{BadEdition, Follows}
 use Rattle.number.specs.declared.NumberRead.{NumberRead}
 use Rattle.number.specs.declared.NumberRead.the-variants.{Number, Refused as NoNumber}
 use Rattle.numbers.specs.declared.Part.{Part}
 use Rattle.numbers.specs.declared.Part.the-variants.{Good, Fault}
-use Rattle.numbers.specs.Numbers.{Source, withNumber, andThen, numberBetween}
+use Rattle.numbers.specs.Numbers.{withNumber, andThen}
 
 pub no-good : {A : Type 0} {why : Refusal} {p end : ℕ} → Fault why p ≡ Good end → A
 no-good e = let z : _≡_ {A = ℕ} 0 1 = cc in absurd (omega arith)

@@ -19,7 +19,7 @@ use Rattle.numbers.specs.declared.Part.the-variants.{Good}
 use Rattle.numbers.specs.Numbers.{Source, listAt, followed, numbers, numbersOf, allBytes}
 use Rattle.numbers.proofs.Laws.{numbers-end, numbers-most, stands}
 use Rattle.numbers.proofs.Laws.{bytes-on, size-on}
-use Rattle.numbers.proofs.Moved.{moved, movedTo, numbers-moved}
+use Rattle.numbers.proofs.Moved.{moved, numbers-moved}
 use Rattle.numbers.proofs.Runs.{Run, Tells}
 use Rattle.numbers.proofs.Runs.Run.{none, more}
 use Rattle.numbers.proofs.Runs.Tells.{good}
@@ -134,6 +134,7 @@ list-run list (more {at = at} e r) h =
 
 pub listed : (list : List ℕ) {m end : ℕ} → Tells (listAt list) m 0 (Good end) → length list ≤ end → (end ≡ length list) × (length list ≤ m)
 listed list (good r l) w = let t = list-run list r (omega arith) in (omega arith, omega arith)
+
 -- the numbers of bytes fit
 followed-fit : (got : NumberRead) (f : ℕ → List ℕ) → ((v next : ℕ) → got ≡ Number v next → v < 4294967296)
     → ((next : ℕ) → Numbers (f next)) → Numbers (followed got f)
@@ -145,7 +146,6 @@ pub numbers-fit : (bytes : List ℕ) → Bytes bytes → (n at : ℕ) → Number
 numbers-fit bytes y zero at = λ i. omega arith
 numbers-fit bytes y (suc n) at =
     followed-fit (readAt bytes at) (numbers (readAt bytes) n) (λ v next e. written-back bytes at y e .fits) (numbers-fit bytes y n)
-
 
 -- a part of a list that is good ends at most one past its end, if it begins there
 list-ends : (list : List ℕ) {n at end : ℕ} → Run (listAt list) n at end → at ≤ length list + 1 → end ≤ length list + 1

@@ -1,21 +1,19 @@
 -- A good part of a sheet is a run of numbers, as many as the document allows; and a refusal 11 is the numberAt's. Assumes nothing.
-use Prim.Native.Nat.{ℕ, zero, suc, _+_, _*_, _≤_}
+use Prim.Native.Nat.{ℕ, zero, suc, _+_, _≤_}
 use mathlib.Core.Path.{_≡_, refl}
 use mathlib.Core.Bool.{Bool, true, false, cond, _&&_}
-use native.Mathlib.Nat.{suc-add, zero-add, suc-mul, mul-le-mul-right}
+use native.Mathlib.Nat.{suc-add, zero-add}
 use native.Mathlib.Omega.{arith}
 use borrow.Author.Tests.{leb-true}
-use lib.Dec.{eqb, leb, ltb}
-use Rattle.basics.specs.Limits.{rowsMost, stepsMost, eventsMost}
+use lib.Dec.{leb}
 use Rattle.basics.proofs.Tests.{by-test, and-right}
 use Rattle.refusal.specs.Refusal.{numberOf}
 use Rattle.refusal.specs.declared.Refusal.{Refusal}
-use Rattle.refusal.specs.declared.Refusal.the-variants.{BadEdition, BadEvents}
 use Rattle.number.specs.declared.NumberRead.{NumberRead}
 use Rattle.number.specs.declared.NumberRead.the-variants.{Number, Refused as NoNumber}
 use Rattle.numbers.specs.declared.Part.{Part}
 use Rattle.numbers.specs.declared.Part.the-variants.{Good, Fault}
-use Rattle.numbers.specs.Numbers.{Source, withNumber, andThen, inRange, numberBetween, passed, numbers}
+use Rattle.numbers.specs.Numbers.{Source, withNumber, andThen, inRange, numberBetween, passed}
 
 -- n numbers stand one after the other, from a place to another
 pub data Run (src : Source) : ℕ → ℕ → ℕ → Type 0 where

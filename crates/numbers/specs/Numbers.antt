@@ -7,7 +7,7 @@ use lib.ListN.{length, getD, replicate}
 use lib.Seq.{sets}
 use lib.Dec.{leb, ltb}
 use Rattle.refusal.specs.declared.Refusal.{Refusal}
-use Rattle.refusal.specs.Refusal.{refusalBy}
+use Rattle.refusal.specs.Refusal.{numberOf, refusalBy}
 use Rattle.number.specs.declared.NumberRead.{NumberRead}
 use Rattle.number.specs.declared.NumberRead.the-variants.{Number, Refused}
 use Rattle.number.specs.declared.NumberWritten.{NumberWritten}
@@ -15,6 +15,11 @@ use Rattle.number.specs.Number.{readAt, bytesOf, wholeAt, wholeAfter}
 use Rattle.numbers.specs.declared.Part.{Part}
 use Rattle.numbers.specs.declared.Part.the-variants.{Good, Fault}
 use Rattle.numbers.specs.declared.Taken.{Taken}
+
+-- a part in the paper's numbers: 0 and the place after it, or the refusal and its place
+abbrev pub partNumbers : Part → List ℕ
+partNumbers (Good at) = 0 ∷ at ∷ []
+partNumbers (Fault why place) = numberOf why ∷ place ∷ []
 
 -- what stands at a place of a row: `readAt` says it of bytes, and this of a list. "10: the sheet ends .. before [a number] that is due"
 unfoldable pub listAt : List ℕ → ℕ → NumberRead

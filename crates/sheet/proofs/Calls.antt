@@ -1,6 +1,6 @@
 -- The laws of the two calls, over what they promise: what was read is written again, what was written is read again, a
 -- refusal leaves the lent slice, and the writer never gives 11. Assumes nothing.
-use Prim.Native.Nat.{ℕ, zero, suc, _+_, _≤_, _<_}
+use Prim.Native.Nat.{ℕ, _+_, _≤_}
 use mathlib.Core.Path.{_≡_, refl, sym, ap, _∙_}
 use mathlib.Core.List.{List, _++_}
 use native.Mathlib.Nat.{zero-add}
@@ -14,9 +14,7 @@ use Rattle.refusal.specs.Refusal.{numberOf}
 use Rattle.refusal.specs.declared.Refusal.{Refusal}
 use Rattle.refusal.specs.declared.Refusal.the-variants.{NoRoom, SheetEnds}
 use Rattle.number.specs.Number.{readAt, Bytes}
-use Rattle.number.specs.declared.NumberRead.{NumberRead}
 use Rattle.number.specs.declared.NumberRead.the-variants.{Number, Refused as NoNumber}
-use Rattle.number.proofs.RoundTrip.{written-back}
 use Rattle.numbers.specs.declared.Part.{Part}
 use Rattle.numbers.specs.declared.Part.the-variants.{Good, Fault}
 use Rattle.sheet.specs.declared.SheetAnswer.the-variants.{Done, Refused}

@@ -1,9 +1,8 @@
 -- One turn of each of the judge's loops, by what stands at the place: where one more is due (`left` is one more than
 -- `k`), and where none is. Assumes nothing.
-use Prim.Native.Nat.{ℕ, zero, suc, _+_, _≤_, min}
+use Prim.Native.Nat.{ℕ, suc, _+_, _≤_, min}
 use mathlib.Core.Path.{_≡_, refl, sym, ap, _∙_}
 use mathlib.Core.Bool.{true, false}
-use mathlib.Core.List.{List}
 use native.Mathlib.Omega.{arith}
 use Rattle.basics.specs.Limits.{rowsMost}
 use Rattle.refusal.specs.declared.Refusal.{Refusal}

@@ -2,18 +2,16 @@
 -- over the one is the judgement over the other, moved. Assumes nothing.
 use Prim.Native.Nat.{ℕ, zero, suc, _+_}
 use mathlib.Core.Path.{_≡_, refl, sym, ap, _∙_}
-use mathlib.Core.Bool.{Bool, true, false, cond, _&&_}
-use mathlib.Core.List.{List, _∷_}
-use lib.Dec.{eqb, leb, ltb}
+use mathlib.Core.Bool.{Bool, true, false, cond}
+use lib.Dec.{eqb, ltb}
 use Rattle.basics.specs.Limits.{rowsMost, stepsMost, eventsMost}
-use Rattle.refusal.specs.declared.Refusal.{Refusal}
 use Rattle.refusal.specs.declared.Refusal.the-variants.{BadEdition, BadEvents, Follows}
 use Rattle.number.specs.declared.NumberRead.{NumberRead}
 use Rattle.number.specs.declared.NumberRead.the-variants.{Number, Refused as NoNumber}
 use Rattle.numbers.specs.declared.Part.{Part}
 use Rattle.numbers.specs.declared.Part.the-variants.{Good, Fault}
 use Rattle.numbers.specs.Numbers.{Source, withNumber, numberBetween, passed, numbers}
-use Rattle.numbers.proofs.Moved.{moved, movedTo, cond-moved, with-moved, then-moved, range-moved, between-moved, ranged-moved, passed-moved, numbers-moved}
+use Rattle.numbers.proofs.Moved.{moved, movedTo, cond-moved, then-moved, between-moved, ranged-moved, passed-moved, numbers-moved}
 use Rattle.frame.specs.declared.Setup.{Setup}
 use Rattle.frame.specs.declared.RowKind.{RowKind}
 use Rattle.frame.specs.declared.RowKind.the-variants.{Levels, Slaves}

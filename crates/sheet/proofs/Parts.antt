@@ -5,20 +5,18 @@ use mathlib.Core.Bool.{Bool, true, false, cond}
 use native.Mathlib.Omega.{arith}
 use borrow.Author.Tests.{ltb-false}
 use lib.Dec.{ltb}
-use Rattle.refusal.specs.declared.Refusal.{Refusal}
 use Rattle.refusal.specs.declared.Refusal.the-variants.{BadEdition, Follows}
 use Rattle.number.specs.declared.NumberRead.{NumberRead}
 use Rattle.number.specs.declared.NumberRead.the-variants.{Number, Refused as NoNumber}
 use Rattle.numbers.specs.declared.Part.{Part}
 use Rattle.numbers.specs.declared.Part.the-variants.{Good, Fault}
-use Rattle.numbers.specs.Numbers.{Source, withNumber, andThen, numberBetween}
-use Rattle.numbers.proofs.Parts.{no-good, with-good, then-good, cond-good}
+use Rattle.numbers.specs.Numbers.{Source, numberBetween}
+use Rattle.numbers.proofs.Parts.{no-good, with-good, then-good}
 use Rattle.frame.specs.declared.Setup.{Setup}
-use Rattle.frame.specs.declared.RowKind.{RowKind}
 use Rattle.frame.specs.declared.RowKind.the-variants.{Levels, Slaves}
 use Rattle.frame.specs.Kind.{noRows}
 use Rattle.sheet.specs.declared.RowsRead.{RowsRead}
-use Rattle.sheet.specs.Sheet.{rowsRead, thenRows, withRows, countedRows, head, countedEvents, sheetEnd, body, sheet}
+use Rattle.sheet.specs.Sheet.{thenRows, withRows, countedRows, head, countedEvents, sheetEnd, body, sheet}
 
 -- rows that were read to their end: the part before them is good, and what comes then
 pub then-rows-good : (j : Part) (setup : Setup) (f : ℕ → RowsRead) {end : ℕ} → thenRows j setup f .part ≡ Good end

@@ -1,42 +1,26 @@
 -- A good part of a sheet is a run of numbers, as many as the document allows; and a refusal 11 is the source's. Assumes nothing.
-use Prim.Native.Nat.{ℕ, zero, suc, _+_, _*_, _≤_}
+use Prim.Native.Nat.{ℕ, zero, suc, _+_, _*_}
 use mathlib.Core.Path.{_≡_, refl}
-use mathlib.Core.Bool.{Bool, true, false, cond, _&&_}
-use native.Mathlib.Nat.{suc-add, zero-add, suc-mul, mul-le-mul-right}
+use mathlib.Core.Bool.{Bool, true, false, cond}
+use native.Mathlib.Nat.{suc-mul, mul-le-mul-right}
 use native.Mathlib.Omega.{arith}
-use borrow.Author.Tests.{leb-true}
-use lib.Dec.{eqb, leb, ltb}
+use lib.Dec.{eqb, ltb}
 use Rattle.basics.specs.Limits.{rowsMost, stepsMost, eventsMost}
-use Rattle.basics.proofs.Tests.{by-test, and-right}
 use Rattle.refusal.specs.Refusal.{numberOf}
-use Rattle.refusal.specs.declared.Refusal.{Refusal}
 use Rattle.refusal.specs.declared.Refusal.the-variants.{BadEdition, BadEvents}
 use Rattle.number.specs.declared.NumberRead.{NumberRead}
 use Rattle.number.specs.declared.NumberRead.the-variants.{Number, Refused as NoNumber}
 use Rattle.numbers.specs.declared.Part.{Part}
 use Rattle.numbers.specs.declared.Part.the-variants.{Good, Fault}
 use Rattle.numbers.specs.Numbers.{Source, withNumber, andThen, numberBetween, passed, numbers}
-use Rattle.numbers.proofs.Runs.{Run, Tells, tells-none, tells-less, tells-on, tells-after, tells-then, tells-cond, tells-ranged, passed-tells}
-use Rattle.numbers.proofs.Runs.Tells.{good, fault}
+use Rattle.numbers.proofs.Runs.{Tells, tells-none, tells-less, tells-then, tells-cond, tells-ranged, passed-tells}
+use Rattle.numbers.proofs.Runs.Tells.{fault}
 use Rattle.frame.specs.declared.Setup.{Setup}
 use Rattle.frame.specs.declared.RowKind.{RowKind}
 use Rattle.frame.specs.declared.RowKind.the-variants.{Levels, Slaves}
 use Rattle.frame.specs.Kind.{rowSize, badRows, noRows, withCount, putRow, rowFits}
 use Rattle.sheet.specs.declared.RowsRead.{RowsRead}
-use Rattle.sheet.specs.Sheet.{
-  rowsRead,
-  thenRows,
-  withRows,
-  rowsFrom,
-  countedRows,
-  head,
-  stepCount,
-  event,
-  events,
-  countedEvents,
-  body,
-  sheet,
-}
+use Rattle.sheet.specs.Sheet.{thenRows, withRows, rowsFrom, countedRows, head, stepCount, event, events, countedEvents, body, sheet}
 
 bad-eleven : (kind : RowKind) → numberOf (badRows kind) ≡ 11 → ⊥
 bad-eleven Levels e = omega arith

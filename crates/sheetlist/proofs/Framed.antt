@@ -4,7 +4,7 @@ use mathlib.Core.Path.{_≡_, refl, sym, ap, _∙_}
 use mathlib.Core.Bool.{Bool, true, false, cond, _&&_}
 use mathlib.Core.List.{List}
 use mathlib.Core.Logic.{⊎-elim}
-use native.Mathlib.Nat.{suc-mul, zero-mul, add-zero, zero-add, eq-or-lt-of-le, le-of-suc-le-suc}
+use native.Mathlib.Nat.{suc-mul, zero-mul, zero-add, eq-or-lt-of-le, le-of-suc-le-suc}
 use native.Mathlib.Numerals.{add-one}
 use native.Mathlib.Omega.{arith}
 use borrow.Author.Tests.{le-leb}
@@ -16,7 +16,6 @@ use Rattle.basics.proofs.Tests.{and-both}
 use Rattle.refusal.specs.declared.Refusal.{Refusal}
 use Rattle.refusal.specs.declared.Refusal.the-variants.{BadEdition}
 use Rattle.number.specs.Number.{Bytes}
-use Rattle.numbers.specs.declared.Part.{Part}
 use Rattle.numbers.specs.declared.Part.the-variants.{Good, Fault}
 use Rattle.numbers.specs.Numbers.{listAt, numberBetween, passed, numbers, numbersOf}
 use Rattle.numbers.proofs.Laws.{in-range, stands}
@@ -48,7 +47,7 @@ use Rattle.sheet.specs.declared.SheetAnswer.the-variants.{Done}
 use Rattle.sheet.specs.Sheet.{rowsRead, rowsFrom, countedRows, head, headOf, countedEvents, sheet, readAnswer, readStored}
 use Rattle.sheet.proofs.Calls.{read-list}
 use Rattle.sheet.proofs.Parts.{sheet-parts, head-parts, then-rows-good, with-rows-good}
-use Rattle.sheetlist.specs.Held.{setupOf, placeOr, eventsFrom}
+use Rattle.sheetlist.specs.Held.{setupOf, eventsFrom}
 
 other-kind : Slaves ≡ Levels → ⊥
 other-kind e = let z : _≡_ {A = ℕ} 5 3 = ap rowSize e in omega arith

@@ -4,12 +4,9 @@ use Prim.Native.Nat.{ℕ, zero, suc, _+_, _*_, _/_, _≤_, _<_}
 use mathlib.Core.Path.{_≡_, refl, ap, _∙_}
 use mathlib.Core.Bool.{true}
 use mathlib.Core.List.{List}
-use mathlib.Core.Logic.{⊎-elim}
-use native.Mathlib.Nat.{eq-or-lt-of-le, le-of-suc-le-suc}
 use native.Mathlib.Omega.{arith}
 use borrow.Author.Tests.{ltb-true, ltb-false}
-use lib.ListN.{length, getD, length-set}
-use lib.Seq.{getD-set-same}
+use lib.ListN.{length, getD}
 use lib.Dec.{ltb}
 use Rattle.basics.specs.Limits.{rowsMost, storeMost}
 use Rattle.basics.proofs.Tests.{by-test}
@@ -17,7 +14,7 @@ use Rattle.cycle.proofs.Widths.{width-some, port-some}
 use Rattle.number.specs.Number.{shortest, bytesOf, readAt, Bytes}
 use Rattle.number.proofs.Laws.{size-last, size-more, bytes-most}
 use Rattle.frame.specs.declared.SlaveRow.{SlaveRow}
-use Rattle.frame.specs.Frame.{noLevel, noSlave, levelAt, slaveAt, present, lengthsBefore, levelsFit, slavesFit}
+use Rattle.frame.specs.Frame.{slaveAt, present, lengthsBefore, levelsFit, slavesFit}
 use Rattle.frame.specs.Find.{slaveStoreLength}
 use Rattle.frame.proofs.FrameLaws.{LevelFacts, SlaveFacts, level-count, level-row-facts, limit-most, framed-levels, framed-slaves}
 use Rattle.frame.proofs.SlaveLaws.{slave-count, slave-row-facts, row-inside, store-most}

@@ -2,7 +2,7 @@ use Rattle.numbers.specs.Numbers.{numberAt, taken, numbersAt}
 use Prim.Native.Nat.{ℕ, min}
 use borrow.Author.Needs.{needs}
 use denote.Ref.{now}
-use mathlib.Core.Path.{_≡_, sym, ap, _∙_}
+use mathlib.Core.Path.{_≡_, ap, _∙_}
 use native.Mathlib.Omega.{arith}
 use Rattle.numbers.proofs.numbers_at.Statement.{statement}
 use Rattle.numbers.proofs.numbers_at.Tie as tie

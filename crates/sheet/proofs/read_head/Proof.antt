@@ -1,12 +1,11 @@
-use Rattle.frame.specs.declared.RowKind.the-variants.{Levels, Slaves}
+use Rattle.frame.specs.declared.RowKind.the-variants.{Levels}
 use Rattle.frame.specs.declared.Setup.{Setup}
 use Rattle.numbers.specs.Numbers.{numberAt}
-use Rattle.sheet.specs.declared.RowsRead.{RowsRead}
-use Rattle.sheet.specs.Sheet.{countedRows, head}
+use Rattle.sheet.specs.Sheet.{countedRows}
 use Rattle.sheet.proofs.Laws.{head-fault, head-on}
 use borrow.Author.Needs.{needs}
 use denote.Ref.{now}
-use mathlib.Core.Path.{sym, ap, _∙_}
+use mathlib.Core.Path.{ap, _∙_}
 use Rattle.sheet.proofs.read_head.Statement.{statement}
 use Rattle.sheet.proofs.read_head.Tie as tie
 

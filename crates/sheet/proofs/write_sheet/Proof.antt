@@ -1,7 +1,6 @@
-use Rattle.number.specs.Number.{readAt}
-use Rattle.numbers.specs.Numbers.{listAt, numbersOf, allBytes, copyNumbers, copyNumbersAfter, writeNumbers, writeNumbersAfter}
+use Rattle.numbers.specs.Numbers.{listAt, allBytes, writeNumbers, writeNumbersAfter}
 use Rattle.sheet.proofs.Answers.{answer-fault, answer-done, answer-short}
-use Rattle.sheet.specs.Sheet.{sheet, readAnswer, readStored, writeAnswer, writeStored}
+use Rattle.sheet.specs.Sheet.{sheet, writeAnswer, writeStored}
 use borrow.Author.Needs.{needs}
 use denote.Ref.{now}
 use lib.ListN.{length}

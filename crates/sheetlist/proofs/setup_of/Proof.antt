@@ -1,8 +1,5 @@
-use Rattle.sheet.specs.declared.RowsRead.{RowsRead}
 use Rattle.sheetlist.specs.Held.{setupOf}
 use borrow.Author.Needs.{needs}
-use mathlib.Core.Path.{ap}
-use Rattle.frame.specs.declared.Setup.{Setup}
 use Rattle.sheetlist.proofs.setup_of.Statement.{statement}
 use Rattle.sheetlist.proofs.setup_of.Tie as tie
 
