@@ -9,7 +9,9 @@ returns : tie.Need-returns
 returns c = search needs
 
 slice-aggregate-run-over : tie.Need-slice-aggregate-run-over
-slice-aggregate-run-over c = sym (length-take-le (c .before .before .slave-store-length .result) (c .before .before .before .before .before .before .before .before .args .slave .now) (omega arith))
+slice-aggregate-run-over c =
+    let five = c .before .before .before .before .before in
+    sym (length-take-le (c .before .before .slave-store-length .result) (five .before .before .before .args .slave .now) (omega arith))
 
 returns-2 : tie.Need-returns-2
 returns-2 c = search needs

@@ -15,15 +15,21 @@ loop-holds : tie.Need-loop-holds Inv-loop μ-loop
 loop-holds c = (refl, refl)
 
 add-i : tie.Need-add-i Inv-loop μ-loop
-add-i c = omega (arith, c .before .before .before .before .before .before .before .before .before .loop-test .taken)
+add-i c =
+    let five = c .before .before .before .before .before in
+    omega (arith, five .before .before .before .before .loop-test .taken)
 
 loop-less : tie.Need-loop-less Inv-loop μ-loop
-loop-less c = omega (arith, c .before .before .before .before .before .before .before .before .before .loop-test .taken)
+loop-less c =
+    let five = c .before .before .before .before .before in
+    omega (arith, five .before .before .before .before .loop-test .taken)
 
 loop-again : tie.Need-loop-again Inv-loop μ-loop
 loop-again c =
-    let l = c .before .before .before .before .before .before .before .before .before .before .loop .inv in
-    let s = c .before .before .before .before .before .take-event .kept in
+    let five = c .before .before .before .before .before in
+    let ten = five .before .before .before .before .before in
+    let l = ten .loop .inv in
+    let s = five .take-event .kept in
     (s .1 .1 .0 ∙ l .0, s .1 .1 .1 .0 ∙ l .1)
 
 same-length : tie.Need-same-length Inv-loop μ-loop

@@ -15,14 +15,20 @@ loop-holds : tie.Need-loop-holds Inv-loop μ-loop
 loop-holds c = (refl, refl)
 
 add-i : tie.Need-add-i Inv-loop μ-loop
-add-i c = omega (arith, c .before .before .before .before .before .before .before .loop-test .taken, c .before .before .before .before .before .before .before .before .before .before .before .before .before .before .fits .times)
+add-i c =
+    let five = c .before .before .before .before .before in
+    let ten = five .before .before .before .before .before in
+    omega (arith, five .before .before .loop-test .taken, ten .before .before .before .before .fits .times)
 
 loop-less : tie.Need-loop-less Inv-loop μ-loop
-loop-less c = omega (arith, c .before .before .before .before .before .before .before .loop-test .taken)
+loop-less c =
+    let five = c .before .before .before .before .before in
+    omega (arith, five .before .before .loop-test .taken)
 
 loop-again : tie.Need-loop-again Inv-loop μ-loop
 loop-again c =
-    let l = c .before .before .before .before .before .before .before .before .loop .inv in
+    let five = c .before .before .before .before .before in
+    let l = five .before .before .before .loop .inv in
     let s = c .before .before .before .before .take-events .kept in
     (s .1 .1 .0 ∙ l .0, s .1 .1 .1 .0 ∙ l .1)
 

@@ -5,7 +5,9 @@ use Rattle.channel.proofs.set_asked.Tie as tie
 
 returns : tie.Need-returns
 unfolding timed
-returns c = rw (c .before .before .before .before .before .before .asked-now .ensures, c .before .before .before .before .before .before .before .line-active .ensures)
+returns c =
+    let five = c .before .before .before .before .before in
+    rw (five .before .asked-now .ensures, five .before .before .line-active .ensures)
 
 pub set-asked-spec : {M : Type 1} → statement M
 set-asked-spec =

@@ -13,30 +13,34 @@ put-line-requires-3 c κs = search needs
 
 returns : tie.Need-returns
 returns c =
-    let a = c .before .before .before .before .before .before .before .before .args in
+    let five = c .before .before .before .before .before in
+    let a = five .before .before .before .args in
     let k = c .before .before .put-line .ensures in
-    let e = c .before .before .before .before .before .entry .given .1 in
+    let e = five .entry .given .1 in
     (rw e (k .0), rw e (k .1))
 
 returns-2 : tie.Need-returns-2
 returns-2 c =
-    let a = c .before .before .before .before .before .before .before .before .args in
+    let five = c .before .before .before .before .before in
+    let a = five .before .before .before .args in
     let k = c .before .before .put-line2 .ensures in
-    let e = c .before .before .before .before .before .entry2 .given .1 in
+    let e = five .entry2 .given .1 in
     (rw e (k .0), rw e (k .1))
 
 returns-3 : tie.Need-returns-3
 returns-3 c =
-    let a = c .before .before .before .before .before .before .before .before .args in
+    let five = c .before .before .before .before .before in
+    let a = five .before .before .before .args in
     let k = c .before .before .put-cycle .ensures in
-    let e = c .before .before .before .before .before .entry3 .given .1 in
+    let e = five .entry3 .given .1 in
     (rw e (k .0), rw e (k .1))
 
 returns-4 : tie.Need-returns-4
 returns-4 c =
-    let a = c .before .before .before .before .before .before .before .before .args in
+    let five = c .before .before .before .before .before in
+    let a = five .before .before .before .args in
     let k = c .before .before .put-line3 .ensures in
-    let e = c .before .before .before .before .before .entry4 .given .1 in
+    let e = five .entry4 .given .1 in
     (rw e (k .0), rw e (k .1))
 
 pub put-entry-spec : {M : Type 1} → statement M

@@ -56,8 +56,9 @@ put-field-requires c κs =
 
 loop-again : tie.Need-loop-again Inv-loop μ-loop
 loop-again c =
-    let a = c .before .before .before .before .before .before .before .before .before .args in
-    let l = c .before .before .before .before .before .loop in
+    let five = c .before .before .before .before .before in
+    let a = five .before .before .before .before .args in
+    let l = five .loop in
     let k = c .before .before .put-field .ensures in
     let numbers = a .t4 in
     let n = getD numbers (l .i) 0 in

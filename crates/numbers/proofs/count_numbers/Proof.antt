@@ -27,7 +27,8 @@ loop-holds c = (omega arith, omega arith, rw (sub-zero, zero-add))
 
 returns : tie.Need-returns Inv-loop μ-loop
 returns c =
-    let a = c .before .before .before .before .before .before .args in
+    let five = c .before .before .before .before .before in
+    let a = five .before .args in
     let l = c .before .before .before .before .loop in
     let s = now (a .bytes) in
     omega (
@@ -39,8 +40,9 @@ returns c =
 
 loop-less : tie.Need-loop-less Inv-loop μ-loop
 loop-less c =
-    let a = c .before .before .before .before .before .before .before .args in
-    let l = c .before .before .before .before .before .loop in
+    let five = c .before .before .before .before .before in
+    let a = five .before .before .args in
+    let l = five .loop in
     omega (
       arith,
       read-within (now (a .bytes)) (l .at) (sym (c .before .before .before .read-number .ensures)
@@ -49,8 +51,9 @@ loop-less c =
 
 loop-again : tie.Need-loop-again Inv-loop μ-loop
 loop-again c =
-    let a = c .before .before .before .before .before .before .before .args in
-    let l = c .before .before .before .before .before .loop in
+    let five = c .before .before .before .before .before in
+    let a = five .before .before .args in
+    let l = five .loop in
     let s = now (a .bytes) in
     let more : length s - l .count ≡ suc (length s - (l .count + 1)) = omega arith in
     let r = sym (c .before .before .before .read-number .ensures) ∙ c .before .got .given .1 in

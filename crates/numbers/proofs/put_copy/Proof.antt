@@ -30,8 +30,9 @@ loop-holds c = (omega arith, omega arith, rw (sub-zero, zero-add), rw sub-zero, 
 
 slice-write-out : tie.Need-slice-write-out Inv-loop μ-loop
 slice-write-out c =
-    let a = c .before .before .before .before .before .before .before .before .args in
-    let l = c .before .before .before .before .before .loop in
+    let five = c .before .before .before .before .before in
+    let a = five .before .before .before .args in
+    let l = five .loop in
     let s = now (a .bytes) in
     let more : length s - l .i ≡ suc (length s - (l .i + 1)) = omega arith in
     omega (
@@ -43,8 +44,9 @@ slice-write-out c =
 
 loop-less : tie.Need-loop-less Inv-loop μ-loop
 loop-less c =
-    let a = c .before .before .before .before .before .before .before .before .args in
-    let l = c .before .before .before .before .before .loop in
+    let five = c .before .before .before .before .before in
+    let a = five .before .before .before .args in
+    let l = five .loop in
     omega (
       arith,
       read-within (now (a .bytes)) (l .at) (sym (c .before .before .before .read-number .ensures)
@@ -53,8 +55,9 @@ loop-less c =
 
 loop-again : tie.Need-loop-again Inv-loop μ-loop
 loop-again c =
-    let a = c .before .before .before .before .before .before .before .before .args in
-    let l = c .before .before .before .before .before .loop in
+    let five = c .before .before .before .before .before in
+    let a = five .before .before .before .args in
+    let l = five .loop in
     let s = now (a .bytes) in
     let more : length s - l .i ≡ suc (length s - (l .i + 1)) = omega arith in
     let r = sym (c .before .before .before .read-number .ensures) ∙ c .before .got .given .1 in
@@ -71,7 +74,8 @@ same-length c = c .before .before .before .before .loop .inv .4
 
 returns : tie.Need-returns Inv-loop μ-loop
 returns c =
-    let a = c .before .before .before .before .before .before .before .args in
+    let five = c .before .before .before .before .before in
+    let a = five .before .before .args in
     let l = c .before .before .before .before .loop in
     let s = now (a .bytes) in
     sym (ap (sets (l .out) (l .i))

@@ -26,25 +26,29 @@ loop-holds c = (omega arith, omega arith, refl, refl)
 
 loop-again : tie.Need-loop-again Inv-loop μ-loop
 loop-again c =
-    let a = c .before .before .before .before .before .before .before .before .before .before .before .before .args in
-    let l = c .before .before .before .before .before .before .before .before .before .loop in
+    let five = c .before .before .before .before .before in
+    let ten = five .before .before .before .before .before in
+    let a = ten .before .before .args in
+    let l = five .before .before .before .before .loop in
     let list = now (a .list) in
     let h : l .i < length list = omega arith in
     let v = getD list (l .i) 0 in
     let w = written (l .out) (l .place) v (omega (arith, size-on list (l .i) h)) in
-    let next = past-is (sym (c .before .written .given .1) ∙ c .before .before .before .before .before .write-number .ensures .0
+    let next = past-is (sym (c .before .written .given .1) ∙ five .write-number .ensures .0
     ∙ w .0) in (
       omega arith,
       omega (arith, next, size-on list (l .i) h),
-      rw (c .before .before .before .before .before .write-number .ensures .1, w .1, next) (written-on list (l .i) (l .place) (l .out) h)
+      rw (five .write-number .ensures .1, w .1, next) (written-on list (l .i) (l .place) (l .out) h)
           ∙ l .inv .2,
-      c .before .before .before .before .before .write-number .kept .0 ∙ l .inv .3,
+      five .write-number .kept .0 ∙ l .inv .3,
     )
 
 same-length : tie.Need-same-length Inv-loop μ-loop
 same-length c =
-    let a = c .before .before .before .before .before .before .before .before .before .before .before .args in
-    let l = c .before .before .before .before .before .before .before .before .loop in
+    let five = c .before .before .before .before .before in
+    let ten = five .before .before .before .before .before in
+    let a = ten .before .args in
+    let l = five .before .before .before .loop in
     let list = now (a .list) in
     let h : l .i < length list = omega arith in
     let v = getD list (l .i) 0 in
@@ -53,8 +57,10 @@ same-length c =
 
 returns : tie.Need-returns Inv-loop μ-loop
 returns c =
-    let a = c .before .before .before .before .before .before .before .before .before .before .before .args in
-    let l = c .before .before .before .before .before .before .before .before .loop in
+    let five = c .before .before .before .before .before in
+    let ten = five .before .before .before .before .before in
+    let a = ten .before .args in
+    let l = five .before .before .before .loop in
     let list = now (a .list) in
     let h : l .i < length list = omega arith in
     let v = getD list (l .i) 0 in

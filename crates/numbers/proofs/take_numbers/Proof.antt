@@ -27,8 +27,9 @@ loop-holds c = (omega arith, rw sub-zero, rw sub-zero, refl)
 
 loop-again : tie.Need-loop-again Inv-loop μ-loop
 loop-again c =
-    let a = c .before .before .before .before .before .before .before .before .args in
-    let l = c .before .before .before .before .before .loop in
+    let five = c .before .before .before .before .before in
+    let a = five .before .before .before .args in
+    let l = five .loop in
     let src = (numberAt (a .listed) (now (a .bytes)) (now (a .list))) in
     let more : a .n - l .i ≡ suc (a .n - (l .i + 1)) = omega arith in
     let r = sym (c .before .before .before .number-at .ensures) ∙ c .before .got .given .1 in (
@@ -40,8 +41,9 @@ loop-again c =
 
 returns : tie.Need-returns Inv-loop μ-loop
 returns c =
-    let a = c .before .before .before .before .before .before .before .before .args in
-    let l = c .before .before .before .before .before .loop in
+    let five = c .before .before .before .before .before in
+    let a = five .before .before .before .args in
+    let l = five .loop in
     let src = (numberAt (a .listed) (now (a .bytes)) (now (a .list))) in
     let more : a .n - l .i ≡ suc (a .n - (l .i + 1)) = omega arith in
     let r = sym (c .before .before .before .number-at .ensures) ∙ c .before .got2 .given .1 in

@@ -23,11 +23,12 @@ returns-2 c =
 
 returns-3 : tie.Need-returns-3
 returns-3 c =
+    let five = c .before .before .before .before .before in
     rw (
       c .request-verdict .ensures,
       c .before .request-in .ensures,
-      ← c .before .before .before .before .before .before .before .is-present .ensures,
-      c .before .before .before .before .before .before .if1 .left,
+      ← five .before .before .is-present .ensures,
+      five .before .if1 .left,
       ← ap (λ (q : Request). q .left) (c .before .before .before .before .request-of .ensures),
       eq-eqb _ 0 (c .before .before .if2 .left),
     )

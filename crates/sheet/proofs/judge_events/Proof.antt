@@ -22,7 +22,8 @@ loop-holds c = refl
 
 returns : tie.Need-returns Inv-loop μ-loop
 returns c =
-    let a = c .before .before .before .before .before .before .before .args in
+    let five = c .before .before .before .before .before in
+    let a = five .before .before .args in
     let l = c .before .before .before .before .loop in
     let src = (numberAt (a .listed) (now (a .bytes)) (now (a .list))) in
     let more : l .left ≡ suc (l .left - 1) = omega arith in
@@ -31,8 +32,9 @@ returns c =
 
 loop-again : tie.Need-loop-again Inv-loop μ-loop
 loop-again c =
-    let a = c .before .before .before .before .before .before .before .before .args in
-    let l = c .before .before .before .before .before .loop in
+    let five = c .before .before .before .before .before in
+    let a = five .before .before .before .args in
+    let l = five .loop in
     let src = (numberAt (a .listed) (now (a .bytes)) (now (a .list))) in
     let more : l .left ≡ suc (l .left - 1) = omega arith in
     sym (events-on src (l .place) more (sym (c .before .before .before .judge-event .ensures) ∙ c .before .event .given .1)) ∙ l .inv

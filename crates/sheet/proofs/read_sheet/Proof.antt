@@ -12,7 +12,8 @@ use Rattle.sheet.proofs.read_sheet.Tie as tie
 returns : tie.Need-returns
 unfolding readAnswer readStored
 returns c =
-    let a = c .before .before .before .before .before .before .before .args in
+    let five = c .before .before .before .before .before in
+    let a = five .before .before .args in
     answer-fault (sheet (readAt (now (a .bytes))) (length (now (a .bytes)))) (numbersOf (now (a .bytes))) (now (a .out))
     (sym (c .before .before .before .judge .ensures) ∙ c .before .judged .given .1)
 

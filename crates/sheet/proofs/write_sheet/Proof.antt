@@ -11,7 +11,8 @@ use Rattle.sheet.proofs.write_sheet.Tie as tie
 returns : tie.Need-returns
 unfolding writeAnswer writeStored
 returns c =
-    let a = c .before .before .before .before .before .before .before .args in
+    let five = c .before .before .before .before .before in
+    let a = five .before .before .args in
     answer-fault (sheet (listAt (now (a .list))) (length (now (a .list)))) (allBytes (now (a .list))) (now (a .out))
     (sym (c .before .before .before .judge .ensures) ∙ c .before .judged .given .1)
 

@@ -6,9 +6,10 @@ use Rattle.sheetlist.proofs.post_at.Tie as tie
 
 returns : tie.Need-returns
 returns c =
-    let a = c .before .before .before .before .before .before .before .args in
+    let five = c .before .before .before .before .before in
+    let a = five .before .before .args in
     post-is (now (a .list)) (a .at)
-    (c .before .before .before .before .before .number-in .ensures)
+    (five .number-in .ensures)
     (c .before .before .before .before .number-in2 .ensures)
     (c .before .before .before .number-in3 .ensures)
     (c .before .before .number-in4 .ensures)

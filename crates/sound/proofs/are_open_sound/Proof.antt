@@ -42,8 +42,9 @@ request-at-requires c κs = omega arith
 
 loop-again : tie.Need-loop-again Inv-loop μ-loop
 loop-again c =
+    let five = c .before .before .before .before .before in
     let l = c .before .before .before .before .loop in
-    let f = c .before .before .before .before .before .before .before in
+    let f = five .before .before in
     let e = turn-closed (f .args .setup) (now (f .args .present)) (rests f) (l .level) _ (c .before .before .request-at .ensures)
     (eq-eqb _ 0 (c .if2 .taken)) in
     (omega arith, l .inv .1, omega arith, all-more _ (l .level) (l .inv .3) e, searched-none (f .args .setup .slaves) _ _ _ _ (l .inv .1))
@@ -51,8 +52,9 @@ loop-again c =
 returns : tie.Need-returns Inv-loop μ-loop
 unfolding areOpenSound
 returns c =
-    let l = c .before .before .before .before .before .loop in
-    let f = c .before .before .before .before .before .before .before .before in
+    let five = c .before .before .before .before .before in
+    let l = five .loop in
+    let f = five .before .before .before in
     let e =
     turn-none (f .args .setup) (now (f .args .present)) (rests f) (l .level) _ (c .before .before .before .request-at .ensures)
     (l .i) _ (l .inv .4) (ne-eqb _ 0 (c .before .if2 .left)) (omega arith)
@@ -71,11 +73,12 @@ held : (c : tie.After-is-rest-sound Inv-loop μ-loop)
     → openSound (start c .args .setup) (getD (now (start c .args .present)) (head c .loop .level) false) (head c .loop .level) (rests (start c) (head c .loop .level))
     ≡ c .is-rest-sound .result
 held c =
+    let five = c .before .before .before .before .before in
     let l = head c .loop in
     let f = start c in
-    let some = ne-eqb _ 0 (c .before .before .before .before .before .before .if2 .left) in
+    let some = ne-eqb _ 0 (five .before .if2 .left) in
     turn-held (f .args .setup) (now (f .args .present)) (rests f) (l .level) _
-    (c .before .before .before .before .before .before .before .before .request-at .ensures) (l .i) _ (l .inv .4) some (omega arith) (omega arith)
+    (five .before .before .before .request-at .ensures) (l .i) _ (l .inv .4) some (omega arith) (omega arith)
     (sym (c .before .before .before .row-holds .ensures) ∙ c .before .before .if4 .taken)
     ∙ sym (c .is-rest-sound .ensures)
 
@@ -85,14 +88,17 @@ returns-2 c = sym (all-miss _ (head (c .before) .loop .level) places (omega arit
 
 loop-again-2 : tie.Need-loop-again-2 Inv-loop μ-loop
 loop-again-2 c =
-    let l = c .before .before .before .before .before .before .before .before .before .before .before .loop in
-    let f = c .before .before .before .before .before .before .before .before .before .before .before .before .before .before in
+    let five = c .before .before .before .before .before in
+    let ten = five .before .before .before .before .before in
+    let l = ten .before .loop in
+    let f = ten .before .before .before .before in
     let e = held (c .before) ∙ not-false _ (c .if5 .left) in
     (omega arith, l .inv .1, omega arith, all-more _ (l .level) (l .inv .3) e, searched-none (f .args .setup .slaves) _ _ _ _ (l .inv .1))
 
 loop-again-3 : tie.Need-loop-again-3 Inv-loop μ-loop
 loop-again-3 c =
-    let q = c .before .before .before .before .before .before in
+    let five = c .before .before .before .before .before in
+    let q = five .before in
     let l = q .before .before .loop in
     let f = q .before .before .before .before .before in
     let missed = sym (c .before .row-holds .ensures) ∙ c .if4 .left in (

@@ -21,11 +21,12 @@ returns-3 c =
 
 returns-4 : tie.Need-returns-4
 returns-4 c =
-    let a = c .before .before .before .before .before .before .before .args in
+    let five = c .before .before .before .before .before in
+    let a = five .before .before .args in
     c .is-asked-at .ensures
     ∙ sym
     (ap₂ (askedFits (a .setup) (a .request) (a .clock) (a .active)) (c .before .before .phase .given .1)
-    (c .before .before .before .before .before .asked .given .1))
+    (five .asked .given .1))
 
 pub is-asked-sound-spec : {M : Type 1} → statement M
 is-asked-sound-spec =

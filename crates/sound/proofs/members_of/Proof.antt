@@ -33,8 +33,9 @@ loop-holds c =
 
 loop-again : tie.Need-loop-again Inv-loop μ-loop
 loop-again c =
-    let l = c .before .before .before .before .before .before .before .loop in
-    let a = c .before .before .before .before .before .before .before .before .before .args .t1 in
+    let five = c .before .before .before .before .before in
+    let l = five .before .before .loop in
+    let a = five .before .before .before .before .args .t1 in
     let e : l .i - 1 + 1 ≡ l .i = omega arith in (
       omega arith,
       length-set (l .present) _ true ∙ l .inv .1,
@@ -45,8 +46,9 @@ loop-again c =
 
 loop-again-2 : tie.Need-loop-again-2 Inv-loop μ-loop
 loop-again-2 c =
-    let l = c .before .before .before .before .before .loop in
-    let a = c .before .before .before .before .before .before .before .args .t1 in
+    let five = c .before .before .before .before .before in
+    let l = five .loop in
+    let a = five .before .before .args .t1 in
     let e : l .i - 1 + 1 ≡ l .i = omega arith in (
       omega arith,
       l .inv .1,

@@ -12,9 +12,10 @@ returns c = rw (sym (c .before .is-in-range .ensures) ∙ not-true _ (c .if1 .ta
 returns-2 : tie.Need-returns-2
 unfolding requestVerdict
 returns-2 c =
+    let five = c .before .before .before .before .before in
     rw (
-      sym (c .before .before .before .before .before .before .before .is-in-range .ensures)
-          ∙ not-false _ (c .before .before .before .before .before .before .if1 .left),
+      sym (five .before .before .is-in-range .ensures)
+          ∙ not-false _ (five .before .if1 .left),
       sym (c .before .before .before .before .slave-row .ensures .0) ∙ c .before .before .enum-told2 .given .1,
       sym (c .before .is-past-master .ensures) ∙ c .if2 .taken,
     )
@@ -31,9 +32,10 @@ returns-3 c =
 returns-4 : tie.Need-returns-4
 unfolding requestVerdict
 returns-4 c =
+    let five = c .before .before .before .before .before in
     rw (
-      sym (c .before .before .before .before .before .before .before .is-in-range .ensures)
-          ∙ not-false _ (c .before .before .before .before .before .before .if1 .left),
+      sym (five .before .before .is-in-range .ensures)
+          ∙ not-false _ (five .before .if1 .left),
       sym (c .before .before .before .before .slave-row .ensures .0) ∙ c .before .before .enum-told2 .given .1,
       sym (c .before .is-past-master .ensures) ∙ c .if2 .left,
     )
