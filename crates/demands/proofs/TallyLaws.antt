@@ -15,6 +15,9 @@ use Rattle.step.specs.declared.StepAnswer.{StepAnswer}
 use Rattle.step.specs.declared.StepAnswer.the-variants.{Done, Refused as NotDone}
 use Rattle.step.specs.Plan.{readyVerdict}
 use Rattle.step.specs.Step.{stepOf}
+use Rattle.act.specs.declared.Entry.{Entry}
+use Rattle.logline.specs.Text.{hasRoom}
+use Rattle.step.specs.Log.{Page, lined, LoggedOut, closed, logOn, logFrom, logBy, logOf}
 use Rattle.step.specs.Run.{Out, world, ended, stepIn, after, goOn, runFrom, runBy, runOf}
 
 pub step-tally : (setup : Setup) (ch : Channel) (t u : Tally) (slave master : List ℕ)
@@ -59,3 +62,51 @@ run-tally setup budget ch t u slave master = by (readyVerdict setup ch (length s
         by-test (ltb stepsMost budget)
         (λ l. rw l (both-end _ 0 ch t u slave master))
         (λ s. rw s (from-tally setup budget 0 ch t u slave master))
+
+-- the same of a logged run, and of its page
+pub record LoggedAlike (a b : LoggedOut) : Type 0 where
+  pub channel : a .result .ran .channel ≡ b .result .ran .channel
+  pub steps : a .result .ran .steps ≡ b .result .ran .steps
+  pub verdict : a .result .ran .verdict ≡ b .result .ran .verdict
+  pub past : a .result .past ≡ b .result .past
+  pub slave : a .slave ≡ b .slave
+  pub master : a .master ≡ b .master
+  pub out : a .out ≡ b .out
+
+module _ (t u : Tally) where
+  both-close : (verdict : Verdict) (done : ℕ) (ch : Channel) (slave master : List ℕ) (p : Page)
+      → LoggedAlike (closed verdict done (world ch t slave master) p) (closed verdict done (world ch u slave master) p)
+  both-close verdict done ch slave master p =
+      record { channel = refl; steps = refl; verdict = refl; past = refl; slave = refl; master = refl; out = refl }
+
+  both-log : (done : ℕ) (ch : Channel) (slave master : List ℕ) (p : Page) (a : StepAnswer) (f g : Entry → LoggedOut)
+      → ((e : Entry) → LoggedAlike (f e) (g e))
+      → LoggedAlike (logOn a f (λ (v : Verdict). closed v done (world ch t slave master) p))
+      (logOn a g (λ (v : Verdict). closed v done (world ch u slave master) p))
+  both-log done ch slave master p (Done e) f g k = k e
+  both-log done ch slave master p (NotDone why) f g k = both-close (Refused why) done ch slave master p
+
+log-from-tally : (setup : Setup) (left done : ℕ) (ch : Channel) (t u : Tally) (slave master : List ℕ) (p : Page)
+    → LoggedAlike (logFrom setup left done (world ch t slave master) p) (logFrom setup left done (world ch u slave master) p)
+unfolding logFrom after stepOf
+log-from-tally setup zero done ch t u slave master p = both-close t u Accepted done ch slave master p
+log-from-tally setup (suc left) done ch t u slave master p =
+    by-test (hasRoom (p .out) (p .at))
+    (λ r.
+    rw r
+    (both-log t u done ch slave master p (stepIn setup (world ch t slave master) .answer) _ _
+    (λ e. log-from-tally setup left (suc done) _ (after setup (world ch t slave master) .tally) (after setup (world ch u slave master) .tally) _ _
+    (lined p e))))
+    (λ n. rw n (both-close t u Accepted done ch slave master p))
+
+pub log-tally : (setup : Setup) (budget : ℕ) (ch : Channel) (t u : Tally) (slave master : List ℕ) (p : Page)
+    → LoggedAlike (logOf setup budget (world ch t slave master) p) (logOf setup budget (world ch u slave master) p)
+unfolding logOf
+log-tally setup budget ch t u slave master p = by (readyVerdict setup ch (length slave) (length master))
+  where
+    by : (v : Verdict) → LoggedAlike (logBy setup v budget (world ch t slave master) p) (logBy setup v budget (world ch u slave master) p)
+    by (Refused why) = both-close t u (Refused why) 0 ch slave master p
+    by Accepted =
+        by-test (ltb stepsMost budget)
+        (λ l. rw l (both-close t u _ 0 ch slave master p))
+        (λ s. rw s (log-from-tally setup budget 0 ch t u slave master p))
