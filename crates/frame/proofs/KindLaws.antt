@@ -16,7 +16,7 @@ use Rattle.frame.specs.declared.Setup.{Setup}
 use Rattle.frame.specs.declared.RowKind.{RowKind}
 use Rattle.frame.specs.declared.RowKind.the-variants.{Levels, Slaves}
 use Rattle.frame.specs.Frame.{noLevel, noSlave, levelAt, slaveAt, levelRowFits, isRising, isLastFifteen, slaveRowFits, isApart, areApart, lengthsBefore}
-use Rattle.frame.specs.Kind.{levelFrom, slaveFrom, countOf, withCount, putRow, rowFits}
+use Rattle.frame.specs.Kind.{levelFrom, slaveFrom, rowCount, withCount, putRow, rowFits}
 
 pub put-none : (setup : Setup) (kind : RowKind) (i : ℕ) (row : List ℕ) → length (setup .levels .rows) ≤ i → length (setup .slaves .rows) ≤ i
     → putRow setup kind i row ≡ setup
@@ -30,11 +30,11 @@ put-alike setup Levels i a b same = rw (same 0, same 1, same 2)
 put-alike setup Slaves i a b same = rw (same 0, same 1, same 2, same 3, same 4)
 
 -- the count stays where a row is put, and is the one that was given
-pub put-count : (setup : Setup) (kind : RowKind) (i : ℕ) (row : List ℕ) → countOf (putRow setup kind i row) kind ≡ countOf setup kind
+pub put-count : (setup : Setup) (kind : RowKind) (i : ℕ) (row : List ℕ) → rowCount (putRow setup kind i row) kind ≡ rowCount setup kind
 put-count setup Levels i row = refl
 put-count setup Slaves i row = refl
 
-pub counted : (setup : Setup) (kind : RowKind) (count : ℕ) → countOf (withCount setup kind count) kind ≡ count
+pub counted : (setup : Setup) (kind : RowKind) (count : ℕ) → rowCount (withCount setup kind count) kind ≡ count
 counted setup Levels count = refl
 counted setup Slaves count = refl
 

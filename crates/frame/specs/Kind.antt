@@ -49,9 +49,9 @@ noRows =
       master = 0;
     }
 
-abbrev pub countOf : Setup → RowKind → ℕ
-countOf setup Levels = setup .levels .count
-countOf setup Slaves = setup .slaves .count
+abbrev pub rowCount : Setup → RowKind → ℕ
+rowCount setup Levels = setup .levels .count
+rowCount setup Slaves = setup .slaves .count
 
 abbrev pub withCount : Setup → RowKind → ℕ → Setup
 withCount setup Levels count = withLevels setup (record { rows = setup .levels .rows; count = count })

@@ -106,7 +106,7 @@ zeros zero i = refl
 zeros (suc n) zero = refl
 zeros (suc n) (suc i) = zeros n i
 
--- numbers keep their values in the six places; behind them stands 0, as passed a list's end
+-- numbers keep their values in the six places; after them stands 0, as past a list's end
 pub padded-at : (row : List ℕ) (j : ℕ) → length row ≤ 6 → getD (padded row) j 0 ≡ getD row j 0
 padded-at row j h =
     let none : List ℕ = replicate 6 0 in

@@ -85,6 +85,13 @@ abbrev pub allBytes : List ℕ → List ℕ
 allBytes [] = []
 allBytes (v ∷ list) = bytesOf v ++ allBytes list
 
+-- how many they are
+abbrev pub countNumbers : List ℕ → ℕ
+countNumbers bytes = length (numbersOf bytes)
+
+abbrev pub bytesSize : List ℕ → ℕ
+bytesSize list = length (allBytes list)
+
 -- "17: the lent result is too short"; "a refusal writes nothing": the one into a list, the other into bytes
 unfoldable pub copyNumbers : List ℕ → List ℕ → NumberWritten
 copyNumbers bytes out = wholeAt out 0 (numbersOf bytes)

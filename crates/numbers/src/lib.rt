@@ -8,7 +8,7 @@ ghost use Prim.Native.Nat.{_+_, _≤_};
 ghost use lib.ListN.{length};
 ghost use lib.Seq.{sets};
 ghost use Rattle.numbers.specs.Numbers.{numberAt, lengthOf, numberBetween, taken, numbersAt};
-ghost use Rattle.numbers.specs.Numbers.{numbersOf, allBytes, copyNumbers, copyNumbersAfter, writeNumbers, writeNumbersAfter};
+ghost use Rattle.numbers.specs.Numbers.{numbersOf, allBytes, countNumbers, bytesSize, copyNumbers, copyNumbersAfter, writeNumbers, writeNumbersAfter};
 
 // The most numbers that are taken at once: those of a post.
 pub const TAKEN_MOST: usize = 6;
@@ -107,7 +107,7 @@ pub fn numbers_at(bytes: &[u8], list: &[u32], listed: bool, n: usize, at: usize)
 
 // How many numbers the bytes hold, up to the end or to a fault.
 pub fn count_numbers(bytes: &[u8]) -> usize
-    ensures { λ r. ⌜ r ≡ length (numbersOf (now (bytes .entry))) ⌝ }
+    ensures { λ r. ⌜ r ≡ countNumbers (now (bytes .entry)) ⌝ }
 {
     let mut count: usize = 0;
     let mut at: usize = 0;
@@ -159,7 +159,7 @@ pub fn copy_numbers(bytes: &[u8], out: &mut [u32]) -> NumberWritten
 
 // How many bytes a list of numbers takes.
 pub fn bytes_size(list: &[u32]) -> usize
-    ensures { λ r. ⌜ r ≡ length (allBytes (now (list .entry))) ⌝ }
+    ensures { λ r. ⌜ r ≡ bytesSize (now (list .entry)) ⌝ }
 {
     let mut i: usize = 0;
     let mut sum: usize = 0;

@@ -25,7 +25,7 @@ use Rattle.frame.specs.declared.RowKind.{RowKind}
 use Rattle.frame.specs.declared.RowKind.the-variants.{Levels, Slaves}
 use Rattle.frame.specs.declared.LevelRows.{LevelRows}
 use Rattle.frame.specs.Frame.{levelAt, slaveAt, isRowCount, isMasterLength, levelsFit, slavesFit, isFramed}
-use Rattle.frame.specs.Kind.{rowSize, levelFrom, slaveFrom, badRows, noRows, countOf, withCount, putRow, rowFits}
+use Rattle.frame.specs.Kind.{rowSize, levelFrom, slaveFrom, badRows, noRows, rowCount, withCount, putRow, rowFits}
 use Rattle.frame.proofs.KindLaws.{
   Wide,
   HasRow,
@@ -76,7 +76,7 @@ module _ (list : List ℕ) where
   module _ (kind : RowKind) (first : Setup) (from : ℕ) where
     record Held (i : ℕ) (setup : Setup) : Type 0 where
       wide : Wide setup
-      count : countOf setup kind ≡ countOf first kind
+      count : rowCount setup kind ≡ rowCount first kind
       others : (other : RowKind) → (kind ≡ other → ⊥) → SameRows setup first other
       fit : (j : ℕ) → j < i → rowFits setup kind j ≡ true
       row : (j : ℕ) → j < i → HasRow setup kind j (numbers (listAt list) (rowSize kind) (from + j * rowSize kind))
@@ -119,7 +119,7 @@ module _ (list : List ℕ) where
   record Section (kind : RowKind) (first : Setup) (at end : ℕ) (setup : Setup) : Type 0 where
     few : isRowCount (getD list at 0) ≡ true
     most : getD list at 0 ≤ rowsMost
-    count : countOf setup kind ≡ getD list at 0
+    count : rowCount setup kind ≡ getD list at 0
     wide : Wide setup
     others : (other : RowKind) → (kind ≡ other → ⊥) → SameRows setup first other
     fit : (j : ℕ) → j < getD list at 0 → rowFits setup kind j ≡ true
@@ -160,7 +160,7 @@ module _ (list : List ℕ) where
 
   -- the whole table of a section passes the frame's test of a count and of every row
   whole-fits : (kind : RowKind) {first : Setup} {at end : ℕ} (setup : Setup) → Section kind first at end setup
-      → (isRowCount (countOf setup kind) && allBelow (rowFits setup kind) (countOf setup kind)) ≡ true
+      → (isRowCount (rowCount setup kind) && allBelow (rowFits setup kind) (rowCount setup kind)) ≡ true
   whole-fits kind {at = at} setup s =
       rw (s .count) (and-both (isRowCount (getD list at 0)) _ (s .few) (all-intro (rowFits setup kind) (getD list at 0) (s .fit)))
 

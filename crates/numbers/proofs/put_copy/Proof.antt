@@ -1,4 +1,4 @@
--- The loop's invariant: the numbers left, written behind those that were, give the slice at the end.
+-- The loop's invariant: the numbers left, written after those that were, give the slice at the end.
 use Prim.Native.Nat.{suc, _+_, _-_, _≤_}
 use Rattle.number.proofs.Laws.{read-within, read-end}
 use Rattle.number.specs.Number.{readAt}

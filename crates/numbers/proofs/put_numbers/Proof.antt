@@ -1,4 +1,4 @@
--- The loop's invariant: the bytes of the numbers left, written behind those that were, give the slice at the end.
+-- The loop's invariant: the bytes of the numbers left, written after those that were, give the slice at the end.
 use Prim.Native.Nat.{_+_, _-_, _≤_, _<_}
 use Rattle.number.proofs.Laws.{written}
 use Rattle.numbers.proofs.Laws.{bytes-none, size-on, written-on, past-is, no-room}

@@ -1,4 +1,4 @@
--- The loop's invariant: what is left to read, behind what was kept, is what the whole gives.
+-- The loop's invariant: what is left to read, after what was kept, is what the whole gives.
 use Prim.Native.Nat.{suc, _+_, _-_, _≤_}
 use Rattle.numbers.proofs.Laws.{passed-on, passed-fault, stored-on, numbers-end, taken-is}
 use Rattle.numbers.specs.Numbers.{passed, numbers}
