@@ -1,8 +1,8 @@
 /*
  * What crates/benchrun does, by the plain C of second/: a job sheet without its log, for measuring.
  *
- * Standard input has a count in four bytes, lowest first, and a sheet.  So many times the sheet's events are gone
- * through from a fresh channel: a post is posted, and a step event is one mc_run, or with an argument so many single
+ * Standard input has a count in four bytes, lowest first, and a sheet.  As many times the sheet's events are gone
+ * through from a fresh channel: a post is posted, and a step event is one mc_run, or with an argument as many single
  * steps.  Then the last channel, the tally and digests of both stores are printed, as benchrun prints them.
  */
 #include "second.h"

@@ -2,7 +2,7 @@
  * The sheets that the bench measures on.
  *
  *   scenes                     the names of all scenes, each with two step counts to measure between
- *   scenes NAME STEPS TIMES    the scene's posts and one event of STEPS steps, behind TIMES in four bytes, lowest first
+ *   scenes NAME STEPS TIMES    the scene's posts and one event of STEPS steps, after TIMES in four bytes, lowest first
  *   scenes long                a sheet with millions of log lines, alone
  *
  * The measured steps lie inside the scene's work, so that an owner without a request never idles in between.

@@ -1115,7 +1115,7 @@ struct mc_sheet_result mc_write_sheet(const uint32_t *list, size_t count, uint8_
     return result;
 }
 
-/* In a valid list: the counts, and the rows behind them. */
+/* In a valid list: the counts, and the rows after them. */
 enum { LEVEL_COUNT_AT = 1, LEVEL_FIELDS = 3, SLAVE_FIELDS = 5 };
 
 static const uint32_t *slave_count_of(const uint32_t *list)

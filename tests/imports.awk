@@ -3,7 +3,7 @@
 
 # ---- words ----------------------------------------------------------------
 
-# What stands behind a dot is a field or another module's name, and no use of ours.
+# What stands after a dot is a field or another module's name, and no use of ours.
 function heads(text, seen,    words, n, i) {
     n = split(text, words, " ")
     for (i = 1; i <= n; i++) {
@@ -71,7 +71,7 @@ function items_of(statement, items,    text, n, i) {
     if (n > 0 && items[n] == "") n--
     return n
 }
-# The name that an item brings: behind `as`, or at the end of its path.
+# The name that an item brings: after `as`, or at the end of its path.
 function name_of(item) {
     if (item ~ / as /) { sub(/.* as +/, "", item); return item }
     sub(/.*::/, "", item)

@@ -17,7 +17,7 @@ function quoted(text) {
     else if (kind == "function") need("function\t" crate "\t" text)
     else name[++pending] = text
 }
-# crate/File, or crate/edit and the law behind it.
+# crate/File, or crate/edit and the law after it.
 function slashed(text, after,    part, law) {
     split(text, part, "/")
     if (part[2] ~ /^[A-Z]/) { need("file\t" text); return }
@@ -27,7 +27,7 @@ function slashed(text, after,    part, law) {
     need("edit\t" part[1] "\t" part[2] "\t" law)
     edits_of = part[1]
 }
-# The bare names behind `edit CRATE/NAME,`, up to the end of that part of the sentence.
+# The bare names after `edit CRATE/NAME,`, up to the end of that part of the sentence.
 function bare_edits(text,    each, n, i) {
     sub(/[;(|].*/, "", text)
     n = split(text, each, ", ")

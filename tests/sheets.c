@@ -1,6 +1,6 @@
 /*
  * Makes job sheets for the comparison of two programs: valid ones of every kind and damaged ones, from a seed.
- * Usage: sheets COUNT SEED.  Each sheet is written behind its length, four bytes, lowest first.
+ * Usage: sheets COUNT SEED.  Each sheet is written after its length, four bytes, lowest first.
  * The first sheets are made by hand: one whose clock comes to its limit, and two of the largest step count.
  */
 #include <stdint.h>

@@ -8,21 +8,21 @@ use Rattle.channel.specs.declared.Asked.the-variants.{Never}
 use Rattle.channel.specs.declared.Channel.{Channel}
 use Rattle.channel.specs.Channel.{requestOf}
 use Rattle.frame.specs.Rows.{hasBurst}
-use Rattle.act.specs.declared.Path.{Path}
+use Rattle.act.specs.declared.Route.{Route}
 use Rattle.act.specs.declared.Ending.{Ending}
 use Rattle.act.specs.declared.Ending.the-variants.{Kept, Released, Marked}
 use Rattle.act.specs.Cycle.{Cycle, isLate, isLeaving, endingOf, freed, endedBy}
 
 -- "Nothing is released inside a transfer."
-pub kept-inside : (path : Path) (asked : Asked) (clock : ℕ) (c : Cycle) → c .ends ≡ false → endingOf path asked clock c ≡ Kept
+pub kept-inside : (route : Route) (asked : Asked) (clock : ℕ) (c : Cycle) → c .ends ≡ false → endingOf route asked clock c ≡ Kept
 unfolding endingOf isLeaving
-kept-inside path asked clock c e = rw e
+kept-inside route asked clock c e = rw e
 
 -- a bursting owner that nobody asks keeps the channel until its request is done
-pub kept-unasked : (path : Path) (clock : ℕ) (c : Cycle) → eqb (c .rest .left) 0 ≡ false → hasBurst (path .options) ≡ true
-    → isLeaving path Never clock c ≡ false
+pub kept-unasked : (route : Route) (clock : ℕ) (c : Cycle) → eqb (c .rest .left) 0 ≡ false → hasBurst (route .options) ≡ true
+    → isLeaving route Never clock c ≡ false
 unfolding isLeaving isLate
-kept-unasked path clock c e b = rw (e, b, and-false)
+kept-unasked route clock c e b = rw (e, b, and-false)
 
 -- however a cycle ends, the requests are as it left them
 pub ended-request : (ending : Ending) (ch : Channel) (o l : ℕ) → requestOf (endedBy ending ch o) l ≡ requestOf ch l

@@ -18,7 +18,7 @@ endingNumber (Marked hold) = 2
 -- "C: level, address, bytes, direction, first master lane, first slave lane, then .."
 unfoldable pub cycleFields : CycleEntry → List ℕ
 cycleFields e =
-    e .clock ∷ e .level ∷ e .address ∷ e .bytes ∷ e .direction ∷ e .master ∷ e .slave ∷ endingNumber (e .ending) ∷ []
+    e .clock ∷ e .level ∷ e .address ∷ e .bytes ∷ e .direction ∷ e .«master_lane» ∷ e .«slave_lane» ∷ endingNumber (e .ending) ∷ []
 
 -- the letter of the line: I, G, C or R
 abbrev pub letterOf : Entry → ℕ

@@ -5,12 +5,12 @@ use channel::Request;
 use frame::FoundSlave;
 use frame::Setup;
 ghost use mathlib.Core.Path.{_≡_};
-ghost use Rattle.act.specs.Cycle.{pathOf, releasedBy, isKept, isMarked};
+ghost use Rattle.act.specs.Cycle.{routeOf, releasedBy, isKept, isMarked};
 ghost use Rattle.act.specs.Turn.{arbitrationTime};
 
 // Where the owner's bytes go: what its row and the slave's say, how long after its asked time an owner's transfers may go on,
 // and where the slave row's bytes start in the slave store (last, so that no room is left between the fields).
-pub struct Path {
+pub struct Route {
     pub width: u32,
     pub options: u32,
     pub port: u32,
@@ -39,8 +39,8 @@ pub struct CycleEntry {
     pub address: u32,
     pub bytes: u32,
     pub direction: u32,
-    pub master: u32,
-    pub slave: u32,
+    pub master_lane: u32,
+    pub slave_lane: u32,
     pub ending: Ending,
 }
 
@@ -52,9 +52,9 @@ pub enum Entry {
     Release(u32, u8, Hold),
 }
 
-// The path of a level's request: one search finds the slave row and where its bytes start.
-pub fn path_of(setup: Setup, owner: u32, request: Request) -> Path
-    ensures { λ r. ⌜ r ≡ pathOf setup owner request ⌝ }
+// The route of a level's request: one search finds the slave row and where its bytes start.
+pub fn route_of(setup: Setup, owner: u32, request: Request) -> Route
+    ensures { λ r. ⌜ r ≡ routeOf setup owner request ⌝ }
 {
     let levels = setup.levels;
     let slaves = setup.slaves;
@@ -62,7 +62,7 @@ pub fn path_of(setup: Setup, owner: u32, request: Request) -> Path
     let allowed = frame::allowance_of(setup);
     let found = frame::slave_row(slaves, request.space, request.address, request.left);
     match found {
-        FoundSlave::Missing => Path {
+        FoundSlave::Missing => Route {
             width: row.width,
             options: row.options,
             port: 0,
@@ -71,7 +71,7 @@ pub fn path_of(setup: Setup, owner: u32, request: Request) -> Path
             allowed: allowed,
             start: 0,
         },
-        FoundSlave::Row(slave, start) => Path {
+        FoundSlave::Row(slave, start) => Route {
             width: row.width,
             options: row.options,
             port: slave.port,

@@ -1,6 +1,6 @@
 // benchrun: a job sheet without its log, for measuring (docs/PERFORMANCE.md). Standard input has a count in four bytes,
-// lowest first, and a sheet. So many times the sheet's events are gone through from a fresh channel: a post is posted, and a
-// step event is one `run`, or with an argument so many single steps. Then the last channel, the tally and digests of both
+// lowest first, and a sheet. As many times the sheet's events are gone through from a fresh channel: a post is posted, and a
+// step event is one `run`, or with an argument as many single steps. Then the last channel, the tally and digests of both
 // stores are printed, so that another program can be compared with it.
 use basics::PLACES;
 use channel::Asked;
@@ -18,7 +18,7 @@ struct Session {
     tally: Tally,
 }
 
-// Up to so many steps, each by its own call.
+// Up to `steps` steps, each by its own call.
 fn single_steps(
     setup: Setup,
     session: Session,
@@ -41,7 +41,7 @@ fn single_steps(
     }
 }
 
-// Up to so many steps by one call.
+// Up to `steps` steps by one call.
 fn whole_run(
     setup: Setup,
     session: Session,
@@ -123,7 +123,7 @@ fn take_events(
     session
 }
 
-// The same events so many times, over the same stores; what the last time left.
+// The same events `times` times, over the same stores; what the last time left.
 fn take_rounds(
     setup: Setup,
     list: &[u32],

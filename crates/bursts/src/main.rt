@@ -109,7 +109,7 @@ fn tally_of(
     tally
 }
 
-// The cycles that have run and the longest hold, after so many steps; false where they can't be printed.
+// The cycles that have run and the longest hold, after `steps` steps; false where they can't be printed.
 fn show(setup: Setup, steps: u32) -> bool {
     let mut slave = [0u8; 8192];
     let mut master = [1u8; 4096];

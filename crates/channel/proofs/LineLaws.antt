@@ -17,7 +17,7 @@ use Rattle.channel.specs.declared.Phase.the-variants.{Arbitrating, Grant
 use Rattle.channel.specs.declared.Asked.the-variants.{Never, At}
 use Rattle.channel.specs.declared.Channel.{Channel}
 use Rattle.channel.specs.Channel.{ownerOf, hasRequest}
-use Rattle.channel.specs.Line.{isInactive, waits, drives, lineActive, line, asks, othersAsk, cleared, timed, lineRule, winner, winnerFrom}
+use Rattle.channel.specs.Line.{isInactive, waits, drives, lineActive, line, asks, othersAsk, clearMarks, setAsked, lineRule, winner, winnerFrom}
 
 -- what it takes to drive the line, as facts
 pub record Drives (left : List ℕ) (inactive : List Bool) (owner l : ℕ) : Type 0 where
@@ -61,18 +61,18 @@ unfolding lineActive
 line-some left inactive phase e = let s = any-some _ places e in (s .0, s .1, drives-is left inactive (ownerOf phase) (s .0) (s .2))
 
 -- the asked time does not matter to the line
-pub line-timed : (ch : Channel) → line (timed ch) ≡ line ch
-unfolding timed
-line-timed ch = refl
+pub line-asked : (ch : Channel) → line (setAsked ch) ≡ line ch
+unfolding setAsked
+line-asked ch = refl
 
-pub cleared-on : (ch : Channel) → line ch ≡ true → cleared ch ≡ ch
-unfolding cleared
+pub cleared-on : (ch : Channel) → line ch ≡ true → clearMarks ch ≡ ch
+unfolding clearMarks
 cleared-on ch t = rw t
 
 -- without marks, the line is driven by whoever asks
 cleared-off : (ch : Channel) → line ch ≡ false → (l : ℕ) → l < places
-    → drives (cleared ch .left) (cleared ch .inactive) (ownerOf (cleared ch .phase)) l ≡ asks (ch .left) (ownerOf (ch .phase)) l
-unfolding cleared drives asks
+    → drives (clearMarks ch .left) (clearMarks ch .inactive) (ownerOf (clearMarks ch .phase)) l ≡ asks (ch .left) (ownerOf (ch .phase)) l
+unfolding clearMarks drives asks
 cleared-off ch f l h = rw (f, getD-replicate places l false false h)
 
 drives-asks : (left : List ℕ) (inactive : List Bool) (owner l : ℕ) → drives left inactive owner l ≡ true → asks left owner l ≡ true
@@ -85,7 +85,7 @@ drives-asks left inactive owner l e =
 pub line-after : (ch : Channel) → line (lineRule ch) ≡ othersAsk ch
 unfolding lineActive othersAsk
 line-after ch =
-    line-timed (cleared ch)
+    line-asked (clearMarks ch)
     ∙ by-test (line ch)
     (λ t.
     rw (cleared-on ch t, t)
@@ -93,7 +93,7 @@ line-after ch =
     (any-mono (drives (ch .left) (ch .inactive) (ownerOf (ch .phase))) (asks (ch .left) (ownerOf (ch .phase))) places
     (λ l h e. drives-asks (ch .left) (ch .inactive) (ownerOf (ch .phase)) l e) t)))
     (λ f.
-    any-ext (drives (cleared ch .left) (cleared ch .inactive) (ownerOf (cleared ch .phase))) (asks (ch .left) (ownerOf (ch .phase))) places
+    any-ext (drives (clearMarks ch .left) (clearMarks ch .inactive) (ownerOf (clearMarks ch .phase))) (asks (ch .left) (ownerOf (ch .phase))) places
     (cleared-off ch f))
 
 -- the winner waits, or nobody does and it is 15
@@ -117,12 +117,12 @@ winner-lowest left inactive l h e = first-least (waits left inactive) 0 places s
 
 -- an asked time stays while the channel is granted: the 7,800 ns begin once
 pub asked-stays : (ch : Channel) (o t : ℕ) → ch .phase ≡ Granted o → ch .asked ≡ At t → lineRule ch .asked ≡ At t
-unfolding timed cleared
+unfolding setAsked clearMarks
 asked-stays ch o t p a = rw (p, a)
 
 -- and it begins with an active line alone, not with the grant
-pub unasked : (ch : Channel) (o : ℕ) → ch .phase ≡ Granted o → ch .asked ≡ Never → line ch ≡ false → timed ch .asked ≡ Never
-unfolding timed
+pub unasked : (ch : Channel) (o : ℕ) → ch .phase ≡ Granted o → ch .asked ≡ Never → line ch ≡ false → setAsked ch .asked ≡ Never
+unfolding setAsked
 unasked ch o p a f = rw (f, p, a)
 
 -- while arbitrating, the line is not active where nobody waits

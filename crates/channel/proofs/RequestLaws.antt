@@ -12,8 +12,8 @@ use Rattle.channel.specs.declared.Phase.{Phase}
 use Rattle.channel.specs.declared.Asked.{Asked}
 use Rattle.channel.specs.declared.Channel.{Channel}
 use Rattle.channel.specs.declared.Request.{Request}
-use Rattle.channel.specs.Channel.{requestOf, noRequest, withRequest, changed, fresh, Shaped}
-use Rattle.channel.specs.Line.{line, cleared, timed, lineRule}
+use Rattle.channel.specs.Channel.{requestOf, noRequest, withRequest, changed, freshChannel, Shaped}
+use Rattle.channel.specs.Line.{line, clearMarks, setAsked, lineRule}
 
 -- equal fields, equal channels
 pub same-channel : (a b : Channel) → a .phase ≡ b .phase → a .asked ≡ b .asked → a .clock ≡ b .clock → a .inactive ≡ b .inactive
@@ -75,7 +75,7 @@ no-place ch l q s h =
     (set-out (ch .offset) l (q .offset) (omega (arith, s .offset)))
 
 -- the shape of the arrays
-pub fresh-shaped : Shaped fresh
+pub fresh-shaped : Shaped freshChannel
 fresh-shaped = record { inactive = refl; direction = refl; space = refl; address = refl; left = refl; offset = refl }
 
 pub with-shaped : (ch : Channel) (l : ℕ) (q : Request) → Shaped ch → Shaped (withRequest ch l q)
@@ -97,7 +97,7 @@ changed-shaped ch phase asked clock marks n s =
     record { inactive = n; direction = s .direction; space = s .space; address = s .address; left = s .left; offset = s .offset }
 
 pub rule-shaped : (ch : Channel) → Shaped ch → Shaped (lineRule ch)
-unfolding timed cleared
+unfolding setAsked clearMarks
 rule-shaped ch s =
     changed-shaped ch (ch .phase) (lineRule ch .asked) (ch .clock) (lineRule ch .inactive)
     (by-test (line ch) (λ t. rw t (s .inactive)) (λ f. rw f refl)) s

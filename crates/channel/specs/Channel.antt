@@ -28,9 +28,9 @@ abbrev pub hasRequest : List ℕ → ℕ → Bool
 hasRequest left l = not (eqb (getD left l 0) 0)
 
 -- where the owner stands in the arrays
-abbrev pub placeIn : Phase → ℕ
-placeIn Arbitrating = 0
-placeIn (Granted owner) = owner
+abbrev pub ownerPlace : Phase → ℕ
+ownerPlace Arbitrating = 0
+ownerPlace (Granted owner) = owner
 
 -- "A request is level, direction .., space, address, length .. and an offset in the master store.": what is left of a level's
 abbrev pub requestOf : Channel → ℕ → Request
@@ -78,8 +78,8 @@ changed ch phase asked clock inactive =
     }
 
 -- "After set-up: arbitrating, clock 0, no requests, no marks."
-abbrev pub fresh : Channel
-fresh =
+abbrev pub freshChannel : Channel
+freshChannel =
     record {
       phase = Arbitrating;
       asked = Never;
@@ -94,7 +94,7 @@ fresh =
 
 -- "9: set-up ..: the set-up breaks the frame"; "A refused set-up gives the fresh channel"
 unfoldable pub setUp : Setup → Judged
-setUp setup = record { channel = fresh; verdict = refusedBy ((9, not (isFramed setup)) ∷ []) Accepted }
+setUp setup = record { channel = freshChannel; verdict = refusedBy ((9, not (isFramed setup)) ∷ []) Accepted }
 
 -- For the laws only. Every channel of the program: its arrays have a place for each level
 pub record Shaped (ch : Channel) : Type 0 where

@@ -40,21 +40,25 @@ unfoldable pub othersAsk : Channel → Bool
 othersAsk ch = anyBelow (asks (ch .left) (ownerOf (ch .phase))) places
 
 -- "1. If the line is not active, every inactive mark is removed, and the line is judged afresh."
-unfoldable pub cleared : Channel → Channel
-cleared ch = changed ch (ch .phase) (ch .asked) (ch .clock) (cond (line ch) (ch .inactive) (replicate places false))
+unfoldable pub clearMarks : Channel → Channel
+clearMarks ch = changed ch (ch .phase) (ch .asked) (ch .clock) (cond (line ch) (ch .inactive) (replicate places false))
+
+-- "an active line .. sets the asked time to the clock"
+abbrev pub askedIf : Bool → ℕ → Asked
+askedIf active clock = cond active (At clock) Never
 
 -- "2. While granted, an active line with no asked time sets the asked time to the clock. While arbitrating there is no asked time."
 abbrev pub askedNow : Phase → Asked → Bool → ℕ → Asked
 askedNow Arbitrating asked active clock = Never
 askedNow (Granted owner) (At t) active clock = At t
-askedNow (Granted owner) Never active clock = cond active (At clock) Never
+askedNow (Granted owner) Never active clock = askedIf active clock
 
-unfoldable pub timed : Channel → Channel
-timed ch = changed ch (ch .phase) (askedNow (ch .phase) (ch .asked) (line ch) (ch .clock)) (ch .clock) (ch .inactive)
+unfoldable pub setAsked : Channel → Channel
+setAsked ch = changed ch (ch .phase) (askedNow (ch .phase) (ch .asked) (line ch) (ch .clock)) (ch .clock) (ch .inactive)
 
 -- "After each accepted post and step"
 abbrev pub lineRule : Channel → Channel
-lineRule ch = timed (cleared ch)
+lineRule ch = setAsked (clearMarks ch)
 
 -- "The lowest-numbered level with an open request and no inactive mark wins (001: 0 is highest). With none, level 15 wins.": the lowest from a level on,
 -- and of all

@@ -11,9 +11,8 @@ use frame::SlaveRows;
 use refusal::Refusal;
 use refusal::Verdict;
 ghost use mathlib.Core.Path.{_≡_};
-ghost use mathlib.Core.Bool.{cond};
-ghost use Rattle.channel.specs.Channel.{ownerOf, placeIn, noRequest, requestOf, withRequest, fresh, setUp};
-ghost use Rattle.channel.specs.Line.{lineActive, winnerFrom, cleared, askedNow, timed, lineRule};
+ghost use Rattle.channel.specs.Channel.{ownerOf, ownerPlace, noRequest, requestOf, withRequest, freshChannel, setUp};
+ghost use Rattle.channel.specs.Line.{lineActive, winnerFrom, clearMarks, askedNow, setAsked, lineRule, askedIf};
 ghost use Rattle.channel.specs.Slave.{slaveOf};
 
 // The channel is arbitrating, or granted to one level.
@@ -67,8 +66,8 @@ pub fn owner_of(phase: Phase) -> u8
 }
 
 // Where the owner stands in the arrays; while arbitrating the first place, which nobody then looks at.
-pub fn place_of(phase: Phase) -> usize
-    ensures { λ r. ⌜ r ≡ placeIn phase ⌝ }
+pub fn owner_place(phase: Phase) -> usize
+    ensures { λ r. ⌜ r ≡ ownerPlace phase ⌝ }
 {
     match phase {
         Phase::Arbitrating => 0,
@@ -106,7 +105,7 @@ pub fn request_of(channel: Channel, level: usize) -> Request
 }
 
 // The channel with a level's request laid in its place.
-pub fn put_request(channel: Channel, level: usize, request: Request) -> Channel
+pub fn with_request(channel: Channel, level: usize, request: Request) -> Channel
     ensures { λ r. ⌜ r ≡ withRequest channel level request ⌝ }
 {
     if PLACES <= level {
@@ -171,7 +170,7 @@ pub fn winner_from<'a>(left: &'a [u32; PLACES], inactive: &'a [bool; PLACES], lo
 
 // Line rule 1: if the line is not active, every inactive mark is removed.
 fn clear_marks(channel: Channel) -> Channel
-    ensures { λ r. ⌜ r ≡ cleared channel ⌝ }
+    ensures { λ r. ⌜ r ≡ clearMarks channel ⌝ }
 {
     let phase = channel.phase;
     if line_active(&channel.left, &channel.inactive, phase) {
@@ -184,7 +183,7 @@ fn clear_marks(channel: Channel) -> Channel
 
 // An active line sets the asked time to the clock.
 pub fn asked_if(active: bool, clock: u32) -> Asked
-    ensures { λ r. ⌜ r ≡ cond active (Asked.At clock) Asked.Never ⌝ }
+    ensures { λ r. ⌜ r ≡ askedIf active clock ⌝ }
 {
     if active {
         return Asked::At(clock);
@@ -206,12 +205,12 @@ fn asked_now(phase: Phase, asked: Asked, active: bool, clock: u32) -> Asked
 }
 
 fn set_asked(channel: Channel) -> Channel
-    ensures { λ r. ⌜ r ≡ timed channel ⌝ }
+    ensures { λ r. ⌜ r ≡ setAsked channel ⌝ }
 {
     let phase = channel.phase;
     let asked = channel.asked;
     let active = line_active(&channel.left, &channel.inactive, phase);
-    let now = asked_now(phase, asked, active, channel.clock);
+    let next = asked_now(phase, asked, active, channel.clock);
     let inactive = channel.inactive;
     let direction = channel.direction;
     let space = channel.space;
@@ -220,7 +219,7 @@ fn set_asked(channel: Channel) -> Channel
     let offset = channel.offset;
     Channel {
         phase: phase,
-        asked: now,
+        asked: next,
         clock: channel.clock,
         inactive: inactive,
         direction: direction,
@@ -240,7 +239,7 @@ pub fn line_rule(channel: Channel) -> Channel
 
 // After set-up: arbitrating, clock 0, no requests, no marks.
 pub fn fresh_channel() -> Channel
-    ensures { λ r. ⌜ r ≡ fresh ⌝ }
+    ensures { λ r. ⌜ r ≡ freshChannel ⌝ }
 {
     Channel {
         phase: Phase::Arbitrating,

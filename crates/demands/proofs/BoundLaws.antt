@@ -17,9 +17,9 @@ use Rattle.channel.specs.declared.Asked.{Asked}
 use Rattle.channel.specs.declared.Asked.the-variants.{Never, At}
 use Rattle.channel.specs.declared.Channel.{Channel}
 use Rattle.channel.specs.Channel.{requestOf, withRequest, Shaped}
-use Rattle.channel.specs.Line.{line, othersAsk, cleared, askedNow, timed, lineRule}
-use Rattle.channel.proofs.LineLaws.{line-timed, line-after}
-use Rattle.frame.specs.Allowance.{allowance, isWithin}
+use Rattle.channel.specs.Line.{line, othersAsk, clearMarks, askedNow, setAsked, lineRule}
+use Rattle.channel.proofs.LineLaws.{line-asked, line-after}
+use Rattle.frame.specs.Allowance.{allowanceOf, isWithin}
 use Rattle.sound.specs.Sound.{isInTime}
 use Rattle.sound.proofs.SoundFacts.{Sound, InTime, sound-is}
 use Rattle.sound.proofs.RuleLaws.{rule-same}
@@ -36,8 +36,8 @@ use Rattle.step.specs.declared.Plan.the-variants as plan
 use Rattle.step.specs.Plan.{actPlan}
 use Rattle.step.specs.Step.{advancedBy, stepOf}
 use Rattle.step.proofs.PlanLaws.{says, plan-ready}
-use Rattle.step.proofs.KeepLaws.{pathAt, nextCycle, clockAt, takes}
-use Rattle.demands.specs.History.{Moment, Act, posts, steps, next, after, Start}
+use Rattle.step.proofs.KeepLaws.{routeAt, nextCycle, clockAt, takes}
+use Rattle.demands.specs.History.{Moment, Act, posts, steps, next, momentAfter, Start}
 use Rattle.demands.specs.Waiting.{First, nobody, since, noted, firstAfter, firstIn, firstOf, firstOver}
 use Rattle.demands.specs.Demand.{Bounded}
 use Rattle.demands.proofs.KeptLaws.{by-ready, next-kept, always}
@@ -47,12 +47,12 @@ pub line-others : (setup : Setup) (ch : Channel) → Shaped ch → Sound setup c
 line-others setup ch k s = sym (ap line (rule-same setup ch k s)) ∙ line-after ch
 
 -- an owner that was asked is still within the allowance
-asked-within : (setup : Setup) (ch : Channel) (o t : ℕ) → InTime setup ch o t → ch .clock ≤ t + allowance setup
+asked-within : (setup : Setup) (ch : Channel) (o t : ℕ) → InTime setup ch o t → ch .clock ≤ t + allowanceOf setup
 unfolding isInTime isWithin
 asked-within setup ch o t i =
     by-test (eqb (getD (ch .left) o 0) 0)
     (λ z. omega (arith, eqb-true t (ch .clock) (rw z at (i .kept))))
-    (λ n. omega (arith, leb-true _ (t + allowance setup) (rw n at (i .kept))))
+    (λ n. omega (arith, leb-true _ (t + allowanceOf setup) (rw n at (i .kept))))
 
 -- what the line rule makes of the asked time is what the history notes of the channel after it
 now-first : (p : Phase) (a : Asked) (active : Bool) (clock : ℕ) (ch : Channel) → active ≡ othersAsk ch → clock ≡ ch .clock
@@ -61,18 +61,18 @@ now-first Arbitrating a active clock ch e f = refl
 now-first (Granted o) (At t) active clock ch e f = rw (eq-eqb o o refl)
 now-first (Granted o) Never active clock ch e f = rw (← e, ← f) (by-test active (λ t. rw t) (λ n. rw n))
 
-cleared-line : (ch : Channel) → line (cleared ch) ≡ othersAsk ch
-cleared-line ch = sym (line-timed (cleared ch)) ∙ line-after ch
+cleared-line : (ch : Channel) → line (clearMarks ch) ≡ othersAsk ch
+cleared-line ch = sym (line-asked (clearMarks ch)) ∙ line-after ch
 
 -- the line rule changes no request and no phase
 rule-others : (ch : Channel) → othersAsk (lineRule ch) ≡ othersAsk ch
-unfolding othersAsk timed cleared
+unfolding othersAsk setAsked clearMarks
 rule-others ch = refl
 
 rule-first : (ch : Channel) → firstOf (lineRule ch) ≡ firstAfter (firstOf ch) (lineRule ch)
-unfolding timed cleared
+unfolding setAsked clearMarks
 rule-first ch =
-    now-first (ch .phase) (ch .asked) (line (cleared ch)) (ch .clock) (lineRule ch) (cleared-line ch ∙ sym (rule-others ch)) refl
+    now-first (ch .phase) (ch .asked) (line (clearMarks ch)) (ch .clock) (lineRule ch) (cleared-line ch ∙ sym (rule-others ch)) refl
 
 -- where nothing changes, nothing is noted
 same-noted : (setup : Setup) (ch : Channel) → Shaped ch → Sound setup ch → (p : Phase) (a : Asked) → ch .phase ≡ p → ch .asked ≡ a
@@ -86,7 +86,7 @@ same-first setup ch k s = same-noted setup ch k s (ch .phase) (ch .asked) refl r
 
 -- a release: whatever was noted is forgotten
 freed-first : (ch : Channel) (marks : List Bool) (f : First) → firstOf (lineRule (freed ch marks)) ≡ firstAfter f (lineRule (freed ch marks))
-unfolding timed cleared freed
+unfolding setAsked clearMarks freed
 freed-first ch marks f = refl
 
 moved-first : (ch : Channel) (o : ℕ) (c : Cycle) → firstOf (movedOn ch o c) ≡ firstOf ch
@@ -122,7 +122,7 @@ module _ (setup : Setup) (ch : Channel) (k : Shaped ch) (s : Sound setup ch) whe
   unfolding cycleTurn
   cycle-first o =
       let c = nextCycle setup ch o in
-      ended-first (endingAt (pathAt setup ch o) ch c) (movedOn ch o c) o (moved-first ch o c)
+      ended-first (endingAt (routeAt setup ch o) ch c) (movedOn ch o c) o (moved-first ch o c)
 
   act-first : (p : Plan) → actPlan setup ch ≡ p → Notes p
   act-first plan.Idle e = same-first setup ch k s
@@ -133,17 +133,17 @@ module _ (setup : Setup) (ch : Channel) (k : Shaped ch) (s : Sound setup ch) whe
 
 -- the clocks after the acts
 leave-clock : (ch : Channel) (o : ℕ) → leaveTurn ch o .channel .clock ≡ ch .clock
-unfolding leaveTurn freed timed cleared
+unfolding leaveTurn freed setAsked clearMarks
 leave-clock ch o = refl
 
 ended-clock : (ending : Ending) (ch : Channel) (o : ℕ) → lineRule (endedBy ending ch o) .clock ≡ ch .clock
-unfolding freed timed cleared
+unfolding freed setAsked clearMarks
 ended-clock Kept ch o = refl
 ended-clock (Released h) ch o = refl
 ended-clock (Marked h) ch o = refl
 
 posted-clock : (ch : Channel) (p : Order) → posted ch p .clock ≡ ch .clock
-unfolding posted withRequest timed cleared
+unfolding posted withRequest setAsked clearMarks
 posted-clock ch p = refl
 
 moved-clock : (ch : Channel) (o : ℕ) (c : Cycle) → movedOn ch o c .clock ≡ ch .clock + c .time
@@ -154,7 +154,7 @@ cycle-clock : (setup : Setup) (ch : Channel) (o : ℕ) → advancedBy setup ch (
 unfolding cycleTurn
 cycle-clock setup ch o =
     let c = nextCycle setup ch o in
-    ended-clock (endingAt (pathAt setup ch o) ch c) (movedOn ch o c) o ∙ moved-clock ch o c
+    ended-clock (endingAt (routeAt setup ch o) ch c) (movedOn ch o c) o ∙ moved-clock ch o c
 
 -- over a history: the asked time is the first clock since the grant at which another level had an open request
 next-first : (setup : Setup) (m : Moment) (a : Act) → Start setup m
@@ -172,7 +172,7 @@ next-first setup m steps s =
     (λ why e. rw e (same-first setup ch (s .shaped) sound))
 
 first-always : (setup : Setup) (m : Moment) (acts : List Act) → Start setup m
-    → firstOf (after setup m acts .channel) ≡ firstOver setup m (firstOf (m .channel)) acts
+    → firstOf (momentAfter setup m acts .channel) ≡ firstOver setup m (firstOf (m .channel)) acts
 first-always setup m [] s = refl
 first-always setup m (a ∷ acts) s =
     first-always setup (next setup m a) acts (next-kept setup m a s)
@@ -196,12 +196,12 @@ since-asked (Granted q) Never o t e = nobody-not e
 since-asked (Granted q) (At u) o t e = (ap (λ (f : First). Granted (ownerNoted f)) e, ap (λ (f : First). At (clockNoted f)) e)
 
 cycle-within : (setup : Setup) (ch : Channel) (o t : ℕ) (c : Cycle) → Takes setup o (requestOf ch o) c → InTime setup ch o t
-    → eqb (getD (ch .left) o 0) 0 ≡ false → ch .clock + c .time ≤ t + allowance setup
+    → eqb (getD (ch .left) o 0) 0 ≡ false → ch .clock + c .time ≤ t + allowanceOf setup
 unfolding isInTime isWithin
-cycle-within setup ch o t c takes i n = omega (arith, takes .transfer, leb-true _ (t + allowance setup) (rw n at (i .kept)))
+cycle-within setup ch o t c takes i n = omega (arith, takes .transfer, leb-true _ (t + allowanceOf setup) (rw n at (i .kept)))
 
 act-within : (setup : Setup) → isFramed setup ≡ true → (ch : Channel) → Shaped ch → Sound setup ch → (o t : ℕ) (p : Plan) → actPlan setup ch ≡ p
-    → ch .phase ≡ Granted o → InTime setup ch o t → advancedBy setup ch p .channel .clock ≤ t + allowance setup
+    → ch .phase ≡ Granted o → InTime setup ch o t → advancedBy setup ch p .channel .clock ≤ t + allowanceOf setup
 act-within setup framed ch k s o t plan.Idle e f i = asked-within setup ch o t i
 act-within setup framed ch k s o t (plan.Refused why) e f i = asked-within setup ch o t i
 act-within setup framed ch k s o t (plan.Grant w) e f i =
@@ -216,7 +216,7 @@ act-within setup framed ch k s o t (plan.Cycle l) e f i =
     rw (cycle-clock setup ch l) (cycle-within setup ch l t (nextCycle setup ch l) c (rw (← same) at i) (p .1))
 
 next-within : (setup : Setup) (m : Moment) (a : Act) (o t : ℕ) → Start setup m → m .channel .phase ≡ Granted o → InTime setup (m .channel) o t
-    → next setup m a .channel .clock ≤ t + allowance setup
+    → next setup m a .channel .clock ≤ t + allowanceOf setup
 unfolding postOf stepOf
 next-within setup m (posts p) o t s f i =
     by-test (isAccepted (postVerdict setup (m .channel) p))
@@ -233,9 +233,9 @@ next-within setup m steps o t s f i =
 -- Demand 3, the bound. From any channel that isn't unsound, after any posts and steps: while a level owns the channel and another has had an open request
 -- since the clock t, first since the grant, the clock is at most the allowance past t; and so it is after one more act, at the release too.
 pub hold-bounded : (setup : Setup) (m : Moment) (acts : List Act) (o t : ℕ) → Start setup m
-    → firstOver setup m (firstOf (m .channel)) acts ≡ since o t → Bounded setup (after setup m acts) o t
+    → firstOver setup m (firstOf (m .channel)) acts ≡ since o t → Bounded setup (momentAfter setup m acts) o t
 hold-bounded setup m acts o t s e =
-    let n = after setup m acts in
+    let n = momentAfter setup m acts in
     let k = always setup m acts s in
     let a = since-asked (n .channel .phase) (n .channel .asked) o t (first-always setup m acts s ∙ e) in
     let i = sound-is setup (n .channel) (k .sound) .settled .asked o t (a .0) (a .1) in

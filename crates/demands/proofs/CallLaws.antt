@@ -17,14 +17,14 @@ use Rattle.frame.specs.Frame.{isFramed}
 use Rattle.channel.specs.declared.Channel.{Channel}
 use Rattle.sound.specs.Sound.{isSound}
 use Rattle.act.specs.declared.Entry.{Entry}
-use Rattle.logline.specs.Text.{hasRoom}
+use Rattle.logline.specs.Text.{hasRoomIn}
 use Rattle.step.specs.declared.StepAnswer.{StepAnswer}
 use Rattle.step.specs.declared.StepAnswer.the-variants.{Done, Refused as NotDone}
 use Rattle.step.specs.Plan.{readyVerdict, planOf}
 use Rattle.step.specs.Step.{stepOf}
-use Rattle.step.specs.Run.{World, Out, ended, stepIn, after as stepped, goOn, runFrom, runBy, runOf}
-use Rattle.step.specs.Log.{Page, lined, LoggedOut, closed, logOn, logFrom, logBy, logOf as logRunOf}
-use Rattle.demands.specs.History.{Moment, Act, steps, next, after}
+use Rattle.step.specs.Run.{World, Out, stopped, stepIn, worldAfter as stepped, goOn, runFrom, runBy, runOf}
+use Rattle.step.specs.Log.{Page, pageAfter, LoggedOut, closed, logOn, logFrom, logBy, logRunOf}
+use Rattle.demands.specs.History.{Moment, Act, steps, next, momentAfter}
 use Rattle.demands.specs.Calls.{
   Differ,
   Call,
@@ -46,9 +46,9 @@ use Rattle.demands.specs.Calls.{
 abbrev momentIn : World → Moment
 momentIn w = record { channel = w .channel; slave = w .slave; master = w .master }
 
--- some steps lead to a moment: so many as were done since
+-- some steps lead to a moment: as many as were done since
 abbrev Comes : Setup → Moment → ℕ → ℕ → Moment → Type 0
-Comes setup m done all later = (k : ℕ) × (all ≡ done + k) × (later ≡ after setup m (replicate k steps))
+Comes setup m done all later = (k : ℕ) × (all ≡ done + k) × (later ≡ momentAfter setup m (replicate k steps))
 
 -- one more in front
 one-more : (setup : Setup) (w : World) (done all : ℕ) (later : Moment) → Comes setup (momentIn (stepped setup w)) (suc done) all later
@@ -60,7 +60,7 @@ none-more : (setup : Setup) (w : World) (done : ℕ) → Comes setup (momentIn w
 none-more setup w done = (0, omega arith, refl)
 
 abbrev ran : Setup → ℕ → ℕ → World → StepAnswer → Out
-ran setup left done w a = goOn a (runFrom setup left (suc done) (stepped setup w)) (λ (verdict : Verdict). ended verdict done w)
+ran setup left done w a = goOn a (runFrom setup left (suc done) (stepped setup w)) (λ (verdict : Verdict). stopped verdict done w)
 
 run-goes : (setup : Setup) (left done : ℕ) (w : World) (a : StepAnswer)
     → Comes setup (momentIn (stepped setup w)) (suc done) (runFrom setup left (suc done) (stepped setup w) .result .steps)
@@ -77,7 +77,7 @@ run-comes setup (suc left) done w =
     run-goes setup left done w (stepIn setup w .answer) (run-comes setup left (suc done) (stepped setup w))
 
 abbrev loggedOn : Setup → ℕ → ℕ → World → Page → Entry → LoggedOut
-loggedOn setup left done w p e = logFrom setup left (suc done) (stepped setup w) (lined p e)
+loggedOn setup left done w p e = logFrom setup left (suc done) (stepped setup w) (pageAfter p e)
 
 abbrev logged : Setup → ℕ → ℕ → World → Page → StepAnswer → LoggedOut
 logged setup left done w p a = logOn a (loggedOn setup left done w p) (λ (verdict : Verdict). closed verdict done w p)
@@ -94,31 +94,31 @@ log-comes : (setup : Setup) (left done : ℕ) (w : World) (p : Page)
 unfolding logFrom
 log-comes setup zero done w p = none-more setup w done
 log-comes setup (suc left) done w p =
-    by-test (hasRoom (p .out) (p .at))
-    (λ t. rw t (log-goes setup left done w p (stepIn setup w .answer) (λ e. log-comes setup left (suc done) (stepped setup w) (lined p e))))
+    by-test (hasRoomIn (p .out) (p .at))
+    (λ t. rw t (log-goes setup left done w p (stepIn setup w .answer) (λ e. log-comes setup left (suc done) (stepped setup w) (pageAfter p e))))
     (λ f. rw f (none-more setup w done))
 
--- so many as were reported
-reported : (setup : Setup) (m : Moment) (all : ℕ) (later : Moment) → Comes setup m 0 all later → later ≡ after setup m (replicate all steps)
-reported setup m all later c = let e : c .0 ≡ all = omega (arith, c .1) in c .2 ∙ ap (λ (k : ℕ). after setup m (replicate k steps)) e
+-- as many as were reported
+reported : (setup : Setup) (m : Moment) (all : ℕ) (later : Moment) → Comes setup m 0 all later → later ≡ momentAfter setup m (replicate all steps)
+reported setup m all later c = let e : c .0 ≡ all = omega (arith, c .1) in c .2 ∙ ap (λ (k : ℕ). momentAfter setup m (replicate k steps)) e
 
 -- A run is its steps.
 pub run-is-steps : (setup : Setup) (budget : ℕ) (w : World)
-    → ranTo (runOf setup budget w) ≡ after setup (momentIn w) (replicate (runOf setup budget w .result .steps) steps)
+    → ranTo (runOf setup budget w) ≡ momentAfter setup (momentIn w) (replicate (runOf setup budget w .result .steps) steps)
 unfolding runOf
 run-is-steps setup budget w = by (readyVerdict setup (w .channel) (length (w .slave)) (length (w .master)))
   where
-    by : (v : Verdict) → ranTo (runBy setup v budget w) ≡ after setup (momentIn w) (replicate (runBy setup v budget w .result .steps) steps)
+    by : (v : Verdict) → ranTo (runBy setup v budget w) ≡ momentAfter setup (momentIn w) (replicate (runBy setup v budget w .result .steps) steps)
     by (Refused why) = refl
     by Accepted =
         by-test (ltb stepsMost budget) (λ t. rw t refl) (λ f. rw f (reported setup (momentIn w) _ _ (run-comes setup budget 0 w)))
 
 pub log-is-steps : (setup : Setup) (budget : ℕ) (w : World) (p : Page)
-    → loggedTo (logRunOf setup budget w p) ≡ after setup (momentIn w) (replicate (logRunOf setup budget w p .result .ran .steps) steps)
+    → loggedTo (logRunOf setup budget w p) ≡ momentAfter setup (momentIn w) (replicate (logRunOf setup budget w p .result .ran .steps) steps)
 unfolding logRunOf
 log-is-steps setup budget w p = by (readyVerdict setup (w .channel) (length (w .slave)) (length (w .master)))
   where
-    by : (v : Verdict) → loggedTo (logBy setup v budget w p) ≡ after setup (momentIn w) (replicate (logBy setup v budget w p .result .ran .steps) steps)
+    by : (v : Verdict) → loggedTo (logBy setup v budget w p) ≡ momentAfter setup (momentIn w) (replicate (logBy setup v budget w p .result .ran .steps) steps)
     by (Refused why) = refl
     by Accepted =
         by-test (ltb stepsMost budget) (λ t. rw t refl) (λ f. rw f (reported setup (momentIn w) _ _ (log-comes setup budget 0 w p)))
@@ -143,7 +143,7 @@ module _ (setup : Setup) (ch : Channel) (slave master : List ℕ) (d : Differ se
   stray-log t budget p = rw (differ-verdict .1)
 
 -- one call
-pub call-is-acts : (setup : Setup) (m : Moment) (c : Call setup) → called setup m c ≡ after setup m (actsOf setup m c)
+pub call-is-acts : (setup : Setup) (m : Moment) (c : Call setup) → called setup m c ≡ momentAfter setup m (actsOf setup m c)
 unfolding stepOf
 call-is-acts setup m (post p) = refl
 call-is-acts setup m (step t) = refl
@@ -157,13 +157,13 @@ call-is-acts setup m (strayLog t budget page slave master d) =
     ap (λ (ch : Channel). record { channel = ch; slave = m .slave; master = m .master }) (stray-log setup (m .channel) slave master d t budget page)
 
 -- and any of them
-after-both : (setup : Setup) (m : Moment) (some more : List Act) → after setup m (some ++ more) ≡ after setup (after setup m some) more
+after-both : (setup : Setup) (m : Moment) (some more : List Act) → momentAfter setup m (some ++ more) ≡ momentAfter setup (momentAfter setup m some) more
 after-both setup m [] more = refl
 after-both setup m (a ∷ some) more = after-both setup (next setup m a) some more
 
-pub calls-are-acts : (setup : Setup) (m : Moment) (calls : List (Call setup)) → calledAll setup m calls ≡ after setup m (actsOver setup m calls)
+pub calls-are-acts : (setup : Setup) (m : Moment) (calls : List (Call setup)) → calledAll setup m calls ≡ momentAfter setup m (actsOver setup m calls)
 calls-are-acts setup m [] = refl
 calls-are-acts setup m (c ∷ calls) =
     calls-are-acts setup (called setup m c) calls
-    ∙ ap (λ (later : Moment). after setup later (actsOver setup (called setup m c) calls)) (call-is-acts setup m c)
+    ∙ ap (λ (later : Moment). momentAfter setup later (actsOver setup (called setup m c) calls)) (call-is-acts setup m c)
     ∙ sym (after-both setup m (actsOf setup m c) (actsOver setup (called setup m c) calls))

@@ -9,14 +9,14 @@ use lib.Dec.{ltb}
 use Rattle.basics.specs.Limits.{places}
 use Rattle.basics.proofs.Tests.{by-test}
 use Rattle.frame.specs.declared.Setup.{Setup}
-use Rattle.frame.specs.Allowance.{allowance}
-use Rattle.channel.specs.Channel.{requestOf, fresh}
+use Rattle.frame.specs.Allowance.{allowanceOf}
+use Rattle.channel.specs.Channel.{requestOf, freshChannel}
 use Rattle.channel.proofs.RequestLaws.{fresh-shaped}
 use Rattle.sound.proofs.SoundFacts.{sound-by}
 use Rattle.post.proofs.FreshLaws.{fresh-sound}
 use Rattle.demands.specs.History.{Moment, Start}
 use Rattle.demands.specs.Calls.{Call, actsOver}
-use Rattle.demands.specs.Bytes.{bytesFrom, firstByte, asked}
+use Rattle.demands.specs.Bytes.{bytesFrom, firstByte, askedBytes}
 use Rattle.demands.specs.Demand.{Demand3, setUpWith, AfterSetUp}
 use Rattle.demands.proofs.CallLaws.{calls-are-acts}
 use Rattle.demands.proofs.OrderLaws.{in-order, sums}
@@ -38,17 +38,17 @@ demand-3 setup first calls s =
 
 -- the fresh channel is sound under every set-up
 pub fresh-start : (setup : Setup) (slave master : List ℕ) → Start setup (setUpWith slave master)
-fresh-start setup slave master = record { shaped = fresh-shaped; sound = sound-by setup fresh (fresh-sound setup) }
+fresh-start setup slave master = record { shaped = fresh-shaped; sound = sound-by setup freshChannel (fresh-sound setup) }
 
 -- and has nothing open
-zero-at : (l : ℕ) → requestOf fresh l .left ≡ 0
+zero-at : (l : ℕ) → requestOf freshChannel l .left ≡ 0
 zero-at l =
     by-test (ltb l places)
     (λ t. getD-replicate {A = ℕ} places l 0 0 (ltb-true l places t))
-    (λ f. List·getD-eq-default (fresh .left) 0 {n = l} (omega (arith, ltb-false l places f, length-replicate {A = ℕ} places 0)))
+    (λ f. List·getD-eq-default (freshChannel .left) 0 {n = l} (omega (arith, ltb-false l places f, length-replicate {A = ℕ} places 0)))
 
 pub after-set-up : (setup : Setup) (slave master : List ℕ) (calls : List (Call setup)) → AfterSetUp setup slave master calls
-unfolding allowance
+unfolding allowanceOf
 after-set-up setup slave master calls =
     let first = setUpWith slave master in
     let acts = actsOver setup first calls in
@@ -56,7 +56,7 @@ after-set-up setup slave master calls =
     record {
       sums = λ l. let e = d .sums l in omega (arith, e, zero-at l);
       order = λ l.
-          sym (ap (λ (left : ℕ). bytesFrom left (firstByte (requestOf fresh l)) ++ asked setup first l acts) (zero-at l)) ∙ d .order l;
+          sym (ap (λ (left : ℕ). bytesFrom left (firstByte (requestOf freshChannel l)) ++ askedBytes setup first l acts) (zero-at l)) ∙ d .order l;
       owners = d .owners;
       stores = d .stores;
       hold = λ past rest e o t f a. d .hold past rest e o t f .onward a;

@@ -22,7 +22,7 @@ use Rattle.step.specs.Plan.{actPlan, readyVerdict, planBy, planOf}
 use Rattle.step.specs.Step.{Ready, stepOf}
 use Rattle.step.proofs.PlanLaws.{ready-is, plan-ready}
 use Rattle.step.proofs.KeepLaws.{step-sound, step-shaped}
-use Rattle.demands.specs.History.{Moment, Act, posts, steps, next, after, Start}
+use Rattle.demands.specs.History.{Moment, Act, posts, steps, next, momentAfter, Start}
 
 posted-shaped : (ch : Channel) (p : Order) → Shaped ch → Shaped (posted ch p)
 unfolding posted
@@ -64,6 +64,6 @@ pub next-kept : (setup : Setup) (m : Moment) (a : Act) → Start setup m → Sta
 next-kept setup m a s = record { shaped = next-shaped setup m a (s .shaped); sound = next-sound setup m a s }
 
 -- every moment of a history is one that a history may start from
-pub always : (setup : Setup) (m : Moment) (acts : List Act) → Start setup m → Start setup (after setup m acts)
+pub always : (setup : Setup) (m : Moment) (acts : List Act) → Start setup m → Start setup (momentAfter setup m acts)
 always setup m [] s = s
 always setup m (a ∷ acts) s = always setup (next setup m a) acts (next-kept setup m a s)

@@ -34,23 +34,23 @@ use Rattle.step.specs.declared.StepAnswer.the-variants.{Done, Refused}
 use Rattle.step.specs.Plan.{actPlan}
 use Rattle.step.specs.Step.{advancedBy, stepOf}
 use Rattle.step.proofs.PlanLaws.{says, plan-ready}
-use Rattle.step.proofs.KeepLaws.{pathAt, nextCycle, movedAt, endedAt, leaves, here, other}
-use Rattle.demands.specs.History.{Moment, Act, posts, steps, noTally, next, after}
+use Rattle.step.proofs.KeepLaws.{routeAt, nextCycle, movedAt, endedAt, leaves, here, other}
+use Rattle.demands.specs.History.{Moment, Act, posts, steps, noTally, next, momentAfter}
 use Rattle.demands.specs.Log.{added, logOf}
 use Rattle.demands.specs.Bytes.{
   Byte,
   further,
   bytesFrom,
   firstByte,
-  bytesOf,
+  requestBytes,
   openBytes,
   askedBy,
   movedFor,
   answerAt,
   movedBy,
-  asked,
-  moved,
-  logged,
+  askedBytes,
+  movedBytes,
+  loggedBytes,
 }
 use Rattle.demands.proofs.KeptLaws.{by-ready, next-shaped}
 use Rattle.demands.proofs.TransferLaws.{rule-request}
@@ -75,7 +75,7 @@ how-many zero b = refl
 how-many (suc n) b = ap suc (how-many n (further 1 b))
 
 -- a request is the bytes of its next cycle and those that are left after it
-rest-bytes : (q : Request) (c : Cycle) → Leaves q c → bytesFrom (c .rest .left) (further (c .bytes) (firstByte q)) ≡ bytesOf (c .rest)
+rest-bytes : (q : Request) (c : Cycle) → Leaves q c → bytesFrom (c .rest .left) (further (c .bytes) (firstByte q)) ≡ requestBytes (c .rest)
 rest-bytes q c k =
     by-test (eqb (c .rest .left) 0)
     (λ t. rw (eqb-true (c .rest .left) 0 t))
@@ -84,7 +84,7 @@ rest-bytes q c k =
 abbrev cycleByte : Request → Cycle → Byte
 cycleByte q c = record { direction = q .direction; space = q .space; address = c .address; offset = q .offset }
 
-cycle-parts : (q : Request) (c : Cycle) → Leaves q c → bytesOf q ≡ bytesFrom (c .bytes) (cycleByte q c) ++ bytesOf (c .rest)
+cycle-parts : (q : Request) (c : Cycle) → Leaves q c → requestBytes q ≡ bytesFrom (c .bytes) (cycleByte q c) ++ requestBytes (c .rest)
 cycle-parts q c k =
     let e : q .left ≡ c .bytes + c .rest .left = omega (arith, k .most, k .left) in
     rw (k .address)
@@ -96,14 +96,14 @@ cycle-parts q c k =
 abbrev Flows : List Byte → List Byte → List Byte → List Byte → Type 0
 Flows before new gone later = before ++ new ≡ gone ++ later
 
-still : (before later : Request) → later ≡ before → Flows (bytesOf before) [] [] (bytesOf later)
-still before later e = append-nil (bytesOf before) ∙ ap bytesOf (sym e)
+still : (before later : Request) → later ≡ before → Flows (requestBytes before) [] [] (requestBytes later)
+still before later e = append-nil (requestBytes before) ∙ ap requestBytes (sym e)
 
 module _ (setup : Setup) (framed : isFramed setup ≡ true) (ch : Channel) (shaped : Shaped ch) (s : Sound setup ch) (l : ℕ) where
   -- the level's bytes before and after a step, whatever it does
   abbrev StepFlows : Plan → Type 0
   StepFlows p =
-      Flows (bytesOf (requestOf ch l)) [] (movedFor ch l (advancedBy setup ch p .answer)) (bytesOf (requestOf (advancedBy setup ch p .channel) l))
+      Flows (requestBytes (requestOf ch l)) [] (movedFor ch l (advancedBy setup ch p .answer)) (requestBytes (requestOf (advancedBy setup ch p .channel) l))
 
   cycle-flows : (o : ℕ) → actPlan setup ch ≡ plan.Cycle o → StepFlows (plan.Cycle o)
   unfolding cycleTurn cycleEntry
@@ -113,16 +113,16 @@ module _ (setup : Setup) (framed : isFramed setup ≡ true) (ch : Channel) (shap
       let c = nextCycle setup ch o in
       let asks : hasRequest (ch .left) o ≡ true = rw (p .1) in
       let k = leaves setup framed ch shaped s o (p .0) asks (p .2) in
-      let r = rule-request (endedAt setup ch o) l ∙ ended-request (endingAt (pathAt setup ch o) ch c) (movedAt setup ch o) o l in
+      let r = rule-request (endedAt setup ch o) l ∙ ended-request (endingAt (routeAt setup ch o) ch c) (movedAt setup ch o) o l in
       by-test (eqb o l)
       (λ t.
       let same : l ≡ o = sym (eqb-true o l t) in
       let later = r ∙ here setup framed ch shaped s o (p .0) asks (p .2) l same in
       rw t
-      (append-nil (bytesOf (requestOf ch l))
-      ∙ ap (λ (x : ℕ). bytesOf (requestOf ch x)) same
+      (append-nil (requestBytes (requestOf ch l))
+      ∙ ap (λ (x : ℕ). requestBytes (requestOf ch x)) same
       ∙ cycle-parts q c k
-      ∙ ap (λ (x : List Byte). bytesFrom (c .bytes) (cycleByte q c) ++ x) (sym (ap bytesOf later))))
+      ∙ ap (λ (x : List Byte). bytesFrom (c .bytes) (cycleByte q c) ++ x) (sym (ap requestBytes later))))
       (λ f.
       let n = eqb-false o l f in
       rw f (still (requestOf ch l) _ (r ∙ other setup framed ch shaped s o (p .0) asks (p .2) l (λ c. n (sym c)))))
@@ -150,7 +150,7 @@ step-flows setup m l k =
 
 -- an accepted post: its level had nothing open, and the others are as they were
 posted-flows : (setup : Setup) (ch : Channel) (p : Order) (l : ℕ) → Shaped ch → Allowed setup ch p
-    → Flows (bytesOf (requestOf ch l)) (cond (eqb (p .level) l) (bytesOf (requestIn p)) []) [] (bytesOf (requestOf (posted ch p) l))
+    → Flows (requestBytes (requestOf ch l)) (cond (eqb (p .level) l) (requestBytes (requestIn p)) []) [] (requestBytes (requestOf (posted ch p) l))
 unfolding posted
 posted-flows setup ch p l shaped ok =
     let r = rule-request (withRequest ch (p .level) (requestIn p)) l in
@@ -160,7 +160,7 @@ posted-flows setup ch p l shaped ok =
     let small = level-facts-of setup (ok .framed) (p .level) (ok .present) .1 in
     let none : requestOf ch l .left ≡ 0 = eqb-true _ 0 (by-test (eqb (requestOf ch l .left) 0) (λ z. z) (λ n. absurd (false≢true (sym (ok .none) ∙ rw (← same, n))))) in
     let k = r ∙ ap (requestOf (withRequest ch (p .level) (requestIn p))) same ∙ request-same ch (p .level) (requestIn p) shaped (omega (arith, small)) in
-    rw (t, none) (sym (ap bytesOf k)))
+    rw (t, none) (sym (ap requestBytes k)))
     (λ f.
     let n = eqb-false (p .level) l f in
     rw f (still (requestOf ch l) _ (r ∙ request-other ch (p .level) l (requestIn p) (λ c. n (sym c)))))
@@ -173,7 +173,7 @@ post-flows setup m l p k =
     (λ t. rw t (posted-flows setup (m .channel) p l k (allowed setup (m .channel) p (accepted-is _ t))))
     (λ f. rw f (still (requestOf (m .channel) l) (requestOf (m .channel) l) refl))
 
--- what comes after an act goes behind what it moved
+-- what later acts move follows what an act moved
 joined : {A : Type 0} (before new gone mid later went last : List A) → before ++ new ≡ gone ++ mid → mid ++ later ≡ went ++ last
     → before ++ (new ++ later) ≡ gone ++ went ++ last
 joined before new gone mid later went last e f =
@@ -191,39 +191,39 @@ act-flows-on setup m l steps k = step-flows setup m l k
 -- Demand 3, the bytes. From any start, after any posts and steps, of every level: the bytes of all its cycles in log order, followed by its open ones,
 -- are exactly those that were open at the start, followed by those of its accepted posts in posting order.
 pub in-order : (setup : Setup) (m : Moment) (l : ℕ) (acts : List Act) → Shaped (m .channel)
-    → openBytes m l ++ asked setup m l acts ≡ moved setup m l acts ++ openBytes (after setup m acts) l
+    → openBytes m l ++ askedBytes setup m l acts ≡ movedBytes setup m l acts ++ openBytes (momentAfter setup m acts) l
 in-order setup m l [] k = append-nil (openBytes m l)
 in-order setup m l (a ∷ acts) k =
-    joined (openBytes m l) (askedBy setup m l a) (movedBy setup m l a) (openBytes (next setup m a) l) (asked setup (next setup m a) l acts)
-    (moved setup (next setup m a) l acts) (openBytes (after setup (next setup m a) acts) l) (act-flows-on setup m l a k)
+    joined (openBytes m l) (askedBy setup m l a) (movedBy setup m l a) (openBytes (next setup m a) l) (askedBytes setup (next setup m a) l acts)
+    (movedBytes setup (next setup m a) l acts) (openBytes (momentAfter setup (next setup m a) acts) l) (act-flows-on setup m l a k)
     (in-order setup (next setup m a) l acts (next-shaped setup m a k))
 
 -- the log alone shows how many bytes were moved
 answer-logged : (ch : Channel) (l : ℕ) (answer : StepAnswer) (log : List Entry)
-    → logged l (added answer log) ≡ length (movedFor ch l answer) + logged l log
-answer-logged ch l (Done (Idle clock)) log = sym (zero-add (logged l log))
-answer-logged ch l (Done (Grant clock level)) log = sym (zero-add (logged l log))
-answer-logged ch l (Done (Release clock level hold)) log = sym (zero-add (logged l log))
-answer-logged ch l (Refused why) log = sym (zero-add (logged l log))
+    → loggedBytes l (added answer log) ≡ length (movedFor ch l answer) + loggedBytes l log
+answer-logged ch l (Done (Idle clock)) log = sym (zero-add (loggedBytes l log))
+answer-logged ch l (Done (Grant clock level)) log = sym (zero-add (loggedBytes l log))
+answer-logged ch l (Done (Release clock level hold)) log = sym (zero-add (loggedBytes l log))
+answer-logged ch l (Refused why) log = sym (zero-add (loggedBytes l log))
 answer-logged ch l (Done (CycleLine entry)) log =
     by-test (eqb (entry .level) l) (λ t. rw (t, how-many (entry .bytes) _)) (λ f. rw f)
 
-pub log-counts : (setup : Setup) (m : Moment) (l : ℕ) (acts : List Act) → logged l (logOf setup m acts) ≡ length (moved setup m l acts)
+pub log-counts : (setup : Setup) (m : Moment) (l : ℕ) (acts : List Act) → loggedBytes l (logOf setup m acts) ≡ length (movedBytes setup m l acts)
 log-counts setup m l [] = refl
 log-counts setup m l (posts p ∷ acts) = log-counts setup (next setup m (posts p)) l acts
 log-counts setup m l (steps ∷ acts) =
     answer-logged (m .channel) l (answerAt setup m) (logOf setup (next setup m steps) acts)
     ∙ ap (λ (n : ℕ). length (movedBy setup m l steps) + n) (log-counts setup (next setup m steps) l acts)
-    ∙ sym (length-append (movedBy setup m l steps) (moved setup (next setup m steps) l acts))
+    ∙ sym (length-append (movedBy setup m l steps) (movedBytes setup (next setup m steps) l acts))
 
 -- "per level, bytes asked = bytes moved + bytes open", with what was open at the start counted as asked, and the bytes moved added up from the log
 pub sums : (setup : Setup) (m : Moment) (l : ℕ) (acts : List Act) → Shaped (m .channel)
-    → requestOf (m .channel) l .left + length (asked setup m l acts)
-    ≡ logged l (logOf setup m acts) + requestOf (after setup m acts .channel) l .left
+    → requestOf (m .channel) l .left + length (askedBytes setup m l acts)
+    ≡ loggedBytes l (logOf setup m acts) + requestOf (momentAfter setup m acts .channel) l .left
 sums setup m l acts k =
     let e = ap (λ (x : List Byte). length x) (in-order setup m l acts k) in
-    let a = length-append (openBytes m l) (asked setup m l acts) in
-    let b = length-append (moved setup m l acts) (openBytes (after setup m acts) l) in
+    let a = length-append (openBytes m l) (askedBytes setup m l acts) in
+    let b = length-append (movedBytes setup m l acts) (openBytes (momentAfter setup m acts) l) in
     let c = how-many (requestOf (m .channel) l .left) (firstByte (requestOf (m .channel) l)) in
-    let d = how-many (requestOf (after setup m acts .channel) l .left) (firstByte (requestOf (after setup m acts .channel) l)) in
+    let d = how-many (requestOf (momentAfter setup m acts .channel) l .left) (firstByte (requestOf (momentAfter setup m acts .channel) l)) in
     omega (arith, e, a, b, c, d, log-counts setup m l acts)

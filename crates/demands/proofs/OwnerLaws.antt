@@ -11,7 +11,7 @@ use Rattle.frame.specs.declared.Setup.{Setup}
 use Rattle.channel.specs.declared.Phase.{Phase}
 use Rattle.channel.specs.declared.Channel.{Channel}
 use Rattle.channel.specs.Channel.{withRequest}
-use Rattle.channel.specs.Line.{cleared, timed, lineRule}
+use Rattle.channel.specs.Line.{clearMarks, setAsked, lineRule}
 use Rattle.frame.specs.declared.Order.{Order}
 use Rattle.post.specs.Post.{requestIn, postVerdict, posted, postOf}
 use Rattle.act.specs.declared.Ending.{Ending}
@@ -26,14 +26,14 @@ use Rattle.step.specs.declared.StepAnswer.the-variants.{Done, Refused}
 use Rattle.step.specs.Plan.{actPlan}
 use Rattle.step.specs.Step.{advancedBy, stepOf}
 use Rattle.step.proofs.PlanLaws.{says, plan-ready}
-use Rattle.step.proofs.KeepLaws.{pathAt, nextCycle}
-use Rattle.demands.specs.History.{Moment, Act, posts, steps, noTally, next, after}
-use Rattle.demands.specs.Log.{added, logOf, fits, heldAfter, phaseAfter, keepsToOwners}
+use Rattle.step.proofs.KeepLaws.{routeAt, nextCycle}
+use Rattle.demands.specs.History.{Moment, Act, posts, steps, noTally, next}
+use Rattle.demands.specs.Log.{added, logOf, mayLog, heldAfter, phaseAfter, keepsToOwners}
 use Rattle.demands.proofs.KeptLaws.{by-ready}
 
 -- the line rule and a post leave the phase
 pub rule-phase : (ch : Channel) → lineRule ch .phase ≡ ch .phase
-unfolding timed cleared
+unfolding setAsked clearMarks
 rule-phase ch = refl
 
 posted-phase : (ch : Channel) (p : Order) → posted ch p .phase ≡ ch .phase
@@ -41,7 +41,7 @@ unfolding posted withRequest
 posted-phase ch p = rule-phase (withRequest ch (p .level) (requestIn p))
 
 ended-phase : (ending : Ending) (ch : Channel) (o : ℕ) → lineRule (endedBy ending ch o) .phase ≡ heldAfter (ch .phase) ending
-unfolding timed cleared freed
+unfolding setAsked clearMarks freed
 ended-phase Kept ch o = refl
 ended-phase (Released h) ch o = refl
 ended-phase (Marked h) ch o = refl
@@ -52,15 +52,15 @@ moved-phase ch o c = refl
 
 -- what a step's answer says about the phases before and after it
 abbrev Told : Phase → StepAnswer → Phase → Type 0
-Told before (Done entry) after = (fits before entry ≡ true) × (after ≡ phaseAfter before entry)
-Told before (Refused why) after = after ≡ before
+Told before (Done entry) later = (mayLog before entry ≡ true) × (later ≡ phaseAfter before entry)
+Told before (Refused why) later = later ≡ before
 
 module _ (setup : Setup) (ch : Channel) where
   cycle-told : (o : ℕ) → actPlan setup ch ≡ plan.Cycle o → Told (ch .phase) (advancedBy setup ch (plan.Cycle o) .answer) (advancedBy setup ch (plan.Cycle o) .channel .phase)
   unfolding cycleTurn cycleEntry
   cycle-told o e =
       let c = nextCycle setup ch o in
-      let ending = endingAt (pathAt setup ch o) ch c in
+      let ending = endingAt (routeAt setup ch o) ch c in
       let p = says setup ch (plan.Cycle o) e in (
         rw (p .0) (eq-eqb o o refl),
         ended-phase ending (movedOn ch o c) o ∙ ap (λ (x : Phase). heldAfter x ending) (moved-phase ch o c),

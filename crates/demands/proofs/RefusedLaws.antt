@@ -20,8 +20,8 @@ use Rattle.step.specs.declared.Plan.{Plan}
 use Rattle.step.specs.declared.Plan.the-variants as plan
 use Rattle.step.specs.declared.StepAnswer.the-variants.{Refused}
 use Rattle.step.specs.Plan.{readyVerdict, planOf}
-use Rattle.step.specs.Run.{World, ended, runOf}
-use Rattle.step.specs.Log.{Page, closed, logOf}
+use Rattle.step.specs.Run.{World, stopped, runOf}
+use Rattle.step.specs.Log.{Page, closed, logRunOf}
 use Rattle.step.specs.Step.{advancedBy, stepOf, slaveAfter, masterAfter}
 use Rattle.step.proofs.PlanLaws.{refused-still}
 use Rattle.demands.specs.History.{Moment, posts, steps, noTally, next}
@@ -59,21 +59,21 @@ refused-steps setup m why e =
 
 -- a refused run, by 9 or 8 or by 7, gives back what it got and did no steps; and a logged one wrote no line
 pub refused-run : (setup : Setup) (budget : ℕ) (w : World) (why : Refusal)
-    → readyVerdict setup (w .channel) (length (w .slave)) (length (w .master)) ≡ NotReady why → runOf setup budget w ≡ ended (NotReady why) 0 w
+    → readyVerdict setup (w .channel) (length (w .slave)) (length (w .master)) ≡ NotReady why → runOf setup budget w ≡ stopped (NotReady why) 0 w
 unfolding runOf
 refused-run setup budget w why e = rw e
 
 pub long-run : (setup : Setup) (budget : ℕ) (w : World) → readyVerdict setup (w .channel) (length (w .slave)) (length (w .master)) ≡ Accepted
-    → stepsMost < budget → runOf setup budget w ≡ ended (NotReady (refusalBy 7)) 0 w
+    → stepsMost < budget → runOf setup budget w ≡ stopped (NotReady (refusalBy 7)) 0 w
 unfolding runOf
 long-run setup budget w e h = rw (e, lt-ltb stepsMost budget h)
 
 pub refused-log : (setup : Setup) (budget : ℕ) (w : World) (p : Page) (why : Refusal)
-    → readyVerdict setup (w .channel) (length (w .slave)) (length (w .master)) ≡ NotReady why → logOf setup budget w p ≡ closed (NotReady why) 0 w p
-unfolding logOf
+    → readyVerdict setup (w .channel) (length (w .slave)) (length (w .master)) ≡ NotReady why → logRunOf setup budget w p ≡ closed (NotReady why) 0 w p
+unfolding logRunOf
 refused-log setup budget w p why e = rw e
 
 pub long-log : (setup : Setup) (budget : ℕ) (w : World) (p : Page) → readyVerdict setup (w .channel) (length (w .slave)) (length (w .master)) ≡ Accepted
-    → stepsMost < budget → logOf setup budget w p ≡ closed (NotReady (refusalBy 7)) 0 w p
-unfolding logOf
+    → stepsMost < budget → logRunOf setup budget w p ≡ closed (NotReady (refusalBy 7)) 0 w p
+unfolding logRunOf
 long-log setup budget w p e h = rw (e, lt-ltb stepsMost budget h)

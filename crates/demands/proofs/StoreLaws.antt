@@ -12,27 +12,27 @@ use lib.Dec.{eqb, leb, ltb}
 use Rattle.basics.proofs.Tests.{by-test, and-left, and-right}
 use Rattle.refusal.specs.declared.Refusal.{Refusal}
 use Rattle.frame.specs.declared.Setup.{Setup}
-use Rattle.frame.specs.declared.Place.the-variants.{Nowhere, At}
+use Rattle.frame.specs.declared.StorePlace.the-variants.{Nowhere, At}
 use Rattle.frame.proofs.FrameLaws.{framed-slaves}
 use Rattle.frame.proofs.SlaveLaws.{places}
 use Rattle.channel.specs.declared.Request.{Request}
 use Rattle.channel.specs.Channel.{requestOf}
 use Rattle.sound.proofs.SoundFacts.{sound-is}
 use Rattle.sound.proofs.RequestFacts.{Fits, fits-is}
-use Rattle.act.specs.declared.Path.{Path}
-use Rattle.act.specs.Cycle.{pathOf, cycleBytes, cycleOf, cycleEntry, cycleTurn}
+use Rattle.act.specs.declared.Route.{Route}
+use Rattle.act.specs.Cycle.{routeOf, cycleBytes, cycleOf, cycleEntry, cycleTurn}
 use Rattle.act.specs.Turn.{grantTurn, leaveTurn}
 use Rattle.step.specs.declared.Plan.{Plan}
 use Rattle.step.specs.declared.Plan.the-variants as plan
 use Rattle.step.specs.Plan.{actPlan, planOf}
 use Rattle.step.specs.Step.{Ready, Roomy, advancedBy, stepOf, carryOf, movedSlave, movedMaster, slaveBy, masterBy, slaveAfter, masterAfter}
 use Rattle.step.proofs.PlanLaws.{says, planned-roomy, plan-ready}
-use Rattle.demands.specs.History.{Moment, Act, posts, steps, noTally, next, after}
+use Rattle.demands.specs.History.{Moment, Act, posts, steps, noTally, next, momentAfter}
 use Rattle.demands.specs.Bytes.{Byte, further, bytesFrom, firstByte, carried}
 use Rattle.demands.specs.Stores.{
   Side,
-  slaves,
-  masters,
+  slaveSide,
+  masterSide,
   across,
   storeOf,
   endIn,
@@ -99,8 +99,8 @@ copied d at s from n x hd hs =
 
 -- the place that one of n bytes with consecutive ends came from
 goes-further : (side : Side) (i : ℕ) (b : Byte) → goesTo side (further i b) ≡ goesTo side b
-goes-further slaves i b = refl
-goes-further masters i b = refl
+goes-further slaveSide i b = refl
+goes-further masterSide i b = refl
 
 among-none : (at x : ℕ) → isAmong at 0 x ≡ false
 among-none at x =
@@ -165,8 +165,8 @@ source-none setup side x (suc n) b g = rw g (source-none setup side x n (further
 
 -- the stores after a plan
 abbrev storeBy : Setup → Moment → Plan → Side → List ℕ
-storeBy setup m p slaves = slaveBy setup (m .channel) p (m .slave) (m .master)
-storeBy setup m p masters = masterBy setup (m .channel) p (m .slave) (m .master)
+storeBy setup m p slaveSide = slaveBy setup (m .channel) p (m .slave) (m .master)
+storeBy setup m p masterSide = masterBy setup (m .channel) p (m .slave) (m .master)
 
 -- one cycle, and either store
 module _ (setup : Setup) (m : Moment) (ready : Ready setup (m .channel) (length (m .slave)) (length (m .master))) (o : ℕ)
@@ -174,13 +174,13 @@ module _ (setup : Setup) (m : Moment) (ready : Ready setup (m .channel) (length 
   abbrev q : Request
   q = requestOf (m .channel) o
 
-  abbrev path : Path
-  path = pathOf setup o q
+  abbrev route : Route
+  route = routeOf setup o q
 
   abbrev n : ℕ
-  n = cycleBytes path q
+  n = cycleBytes route q
 
-  room : Roomy path q (length (m .slave)) (length (m .master))
+  room : Roomy route q (length (m .slave)) (length (m .master))
   room = planned-roomy setup (m .channel) o (length (m .slave)) (length (m .master)) ready e
 
   fits : Fits setup o q
@@ -191,18 +191,18 @@ module _ (setup : Setup) (m : Moment) (ready : Ready setup (m .channel) (length 
 
   -- where the cycle's bytes begin on each side, and that they lie there one after the other, inside the store
   abbrev begins : Side → ℕ
-  begins slaves = carryOf path q .place
-  begins masters = carryOf path q .offset
+  begins slaveSide = carryOf route q .place
+  begins masterSide = carryOf route q .offset
 
   ends : (side : Side) → EndsFrom setup side n (begins side) (firstByte q)
-  unfolding carryOf pathOf
-  ends slaves i h = places (setup .slaves) (framed-slaves setup (ready .framed)) (q .space) (q .address) (q .left) _ _ i (fits .found) (omega arith) .0
-  ends masters i h = refl
+  unfolding carryOf routeOf
+  ends slaveSide i h = places (setup .slaves) (framed-slaves setup (ready .framed)) (q .space) (q .address) (q .left) _ _ i (fits .found) (omega arith) .0
+  ends masterSide i h = refl
 
   inside : (side : Side) → begins side + n ≤ length (storeOf side m)
   unfolding carryOf
-  inside slaves = omega (arith, room .slave)
-  inside masters = omega (arith, room .master)
+  inside slaveSide = omega (arith, room .slave)
+  inside masterSide = omega (arith, room .master)
 
   write-only : eqb (q .direction) 1 ≡ not (eqb (q .direction) 0)
   write-only =
@@ -213,8 +213,8 @@ module _ (setup : Setup) (m : Moment) (ready : Ready setup (m .channel) (length 
   copies : (side : Side) → storeBy setup m (plan.Cycle o) side
       ≡ cond (goesTo side (firstByte q)) (paste (storeOf side m) (begins side) (drop (begins (across side)) (storeOf (across side) m)) n) (storeOf side m)
   unfolding movedSlave movedMaster carryOf
-  copies slaves = rw write-only (by-test (eqb (q .direction) 0) (λ t. rw t) (λ f. rw f))
-  copies masters = refl
+  copies slaveSide = rw write-only (by-test (eqb (q .direction) 0) (λ t. rw t) (λ f. rw f))
+  copies masterSide = refl
 
   brought-by : (side : Side) (x : ℕ) → getD (storeBy setup m (plan.Cycle o) side) x 0
       ≡ brought side x m (broughtFrom m (sourceIn setup side x (bytesFrom n (firstByte q))))
@@ -232,20 +232,20 @@ by-plan : (setup : Setup) (m : Moment) (side : Side) (x : ℕ) → Ready setup (
     → getD (storeBy setup m p side) x 0
     ≡ brought side x m (broughtFrom m (sourceIn setup side x (carried (m .channel) (advancedBy setup (m .channel) p .answer))))
 unfolding grantTurn leaveTurn cycleTurn cycleEntry cycleOf
-by-plan setup m slaves x s plan.Idle e = refl
-by-plan setup m masters x s plan.Idle e = refl
-by-plan setup m slaves x s (plan.Refused why) e = refl
-by-plan setup m masters x s (plan.Refused why) e = refl
-by-plan setup m slaves x s (plan.Grant w) e = refl
-by-plan setup m masters x s (plan.Grant w) e = refl
-by-plan setup m slaves x s (plan.Leave o) e = refl
-by-plan setup m masters x s (plan.Leave o) e = refl
+by-plan setup m slaveSide x s plan.Idle e = refl
+by-plan setup m masterSide x s plan.Idle e = refl
+by-plan setup m slaveSide x s (plan.Refused why) e = refl
+by-plan setup m masterSide x s (plan.Refused why) e = refl
+by-plan setup m slaveSide x s (plan.Grant w) e = refl
+by-plan setup m masterSide x s (plan.Grant w) e = refl
+by-plan setup m slaveSide x s (plan.Leave o) e = refl
+by-plan setup m masterSide x s (plan.Leave o) e = refl
 by-plan setup m side x s (plan.Cycle o) e = brought-by setup m s o e side x
 
 -- a refused step leaves both stores
 left-store : (setup : Setup) (m : Moment) (side : Side) (x : ℕ) (why : Refusal) → getD (storeBy setup m (plan.Refused why) side) x 0 ≡ getD (storeOf side m) x 0
-left-store setup m slaves x why = refl
-left-store setup m masters x why = refl
+left-store setup m slaveSide x why = refl
+left-store setup m masterSide x why = refl
 
 by-step : (setup : Setup) (m : Moment) (side : Side) (x : ℕ)
     → getD (storeBy setup m (planOf setup (m .channel) (length (m .slave)) (length (m .master))) side) x 0
@@ -261,12 +261,12 @@ by-step setup m side x =
 next-store : (setup : Setup) (m : Moment) (side : Side)
     → storeOf side (next setup m steps) ≡ storeBy setup m (planOf setup (m .channel) (length (m .slave)) (length (m .master))) side
 unfolding slaveAfter masterAfter
-next-store setup m slaves = refl
-next-store setup m masters = refl
+next-store setup m slaveSide = refl
+next-store setup m masterSide = refl
 
 posted-store : (setup : Setup) (m : Moment) (side : Side) (a : _) → storeOf side (next setup m (posts a)) ≡ storeOf side m
-posted-store setup m slaves a = refl
-posted-store setup m masters a = refl
+posted-store setup m slaveSide a = refl
+posted-store setup m masterSide a = refl
 
 by-act : (setup : Setup) (m : Moment) (side : Side) (x : ℕ) (a : Act)
     → getD (storeOf side (next setup m a)) x 0 ≡ brought side x m (broughtFrom m (sourceBy setup side x m a))
@@ -282,7 +282,7 @@ by-later side x m later (cycle before k) earlier e = refl
 -- Demand 3, the stores. From any start, after any posts and steps: every byte of both stores is the source byte, as it stood before that cycle, of the
 -- last cycle that went into it, or the starting value when none did.
 pub last-cycle : (setup : Setup) (m : Moment) (side : Side) (x : ℕ) (acts : List Act)
-    → getD (storeOf side (after setup m acts)) x 0 ≡ brought side x m (lastInto setup side x m acts)
+    → getD (storeOf side (momentAfter setup m acts)) x 0 ≡ brought side x m (lastInto setup side x m acts)
 last-cycle setup m side x [] = refl
 last-cycle setup m side x (a ∷ acts) =
     last-cycle setup (next setup m a) side x acts

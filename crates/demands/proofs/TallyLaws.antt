@@ -16,9 +16,9 @@ use Rattle.step.specs.declared.StepAnswer.the-variants.{Done, Refused as NotDon
 use Rattle.step.specs.Plan.{readyVerdict}
 use Rattle.step.specs.Step.{stepOf}
 use Rattle.act.specs.declared.Entry.{Entry}
-use Rattle.logline.specs.Text.{hasRoom}
-use Rattle.step.specs.Log.{Page, lined, LoggedOut, closed, logOn, logFrom, logBy, logOf}
-use Rattle.step.specs.Run.{Out, world, ended, stepIn, after, goOn, runFrom, runBy, runOf}
+use Rattle.logline.specs.Text.{hasRoomIn}
+use Rattle.step.specs.Log.{Page, pageAfter, LoggedOut, closed, logOn, logFrom, logBy, logRunOf}
+use Rattle.step.specs.Run.{Out, world, stopped, stepIn, worldAfter, goOn, runFrom, runBy, runOf}
 
 pub step-tally : (setup : Setup) (ch : Channel) (t u : Tally) (slave master : List ℕ)
     → (stepOf setup ch t slave master .channel ≡ stepOf setup ch u slave master .channel)
@@ -35,21 +35,21 @@ pub record Alike (a b : Out) : Type 0 where
   pub master : a .master ≡ b .master
 
 both-end : (verdict : Verdict) (done : ℕ) (ch : Channel) (t u : Tally) (slave master : List ℕ)
-    → Alike (ended verdict done (world ch t slave master)) (ended verdict done (world ch u slave master))
+    → Alike (stopped verdict done (world ch t slave master)) (stopped verdict done (world ch u slave master))
 both-end verdict done ch t u slave master = record { channel = refl; steps = refl; verdict = refl; slave = refl; master = refl }
 
 both-go : (done : ℕ) (ch : Channel) (t u : Tally) (slave master : List ℕ) (a : StepAnswer) (x y : Out) → Alike x y
-    → Alike (goOn a x (λ (v : Verdict). ended v done (world ch t slave master))) (goOn a y (λ (v : Verdict). ended v done (world ch u slave master)))
+    → Alike (goOn a x (λ (v : Verdict). stopped v done (world ch t slave master))) (goOn a y (λ (v : Verdict). stopped v done (world ch u slave master)))
 both-go done ch t u slave master (Done e) x y k = k
 both-go done ch t u slave master (NotDone why) x y k = both-end (Refused why) done ch t u slave master
 
 from-tally : (setup : Setup) (left done : ℕ) (ch : Channel) (t u : Tally) (slave master : List ℕ)
     → Alike (runFrom setup left done (world ch t slave master)) (runFrom setup left done (world ch u slave master))
-unfolding runFrom after stepOf
+unfolding runFrom worldAfter stepOf
 from-tally setup zero done ch t u slave master = both-end Accepted done ch t u slave master
 from-tally setup (suc left) done ch t u slave master =
     both-go done ch t u slave master (stepIn setup (world ch t slave master) .answer) _ _
-    (from-tally setup left (suc done) _ (after setup (world ch t slave master) .tally) (after setup (world ch u slave master) .tally) _ _)
+    (from-tally setup left (suc done) _ (worldAfter setup (world ch t slave master) .tally) (worldAfter setup (world ch u slave master) .tally) _ _)
 
 pub run-tally : (setup : Setup) (budget : ℕ) (ch : Channel) (t u : Tally) (slave master : List ℕ)
     → Alike (runOf setup budget (world ch t slave master)) (runOf setup budget (world ch u slave master))
@@ -88,20 +88,20 @@ module _ (t u : Tally) where
 
 log-from-tally : (setup : Setup) (left done : ℕ) (ch : Channel) (t u : Tally) (slave master : List ℕ) (p : Page)
     → LoggedAlike (logFrom setup left done (world ch t slave master) p) (logFrom setup left done (world ch u slave master) p)
-unfolding logFrom after stepOf
+unfolding logFrom worldAfter stepOf
 log-from-tally setup zero done ch t u slave master p = both-close t u Accepted done ch slave master p
 log-from-tally setup (suc left) done ch t u slave master p =
-    by-test (hasRoom (p .out) (p .at))
+    by-test (hasRoomIn (p .out) (p .at))
     (λ r.
     rw r
     (both-log t u done ch slave master p (stepIn setup (world ch t slave master) .answer) _ _
-    (λ e. log-from-tally setup left (suc done) _ (after setup (world ch t slave master) .tally) (after setup (world ch u slave master) .tally) _ _
-    (lined p e))))
+    (λ e. log-from-tally setup left (suc done) _ (worldAfter setup (world ch t slave master) .tally) (worldAfter setup (world ch u slave master) .tally) _ _
+    (pageAfter p e))))
     (λ n. rw n (both-close t u Accepted done ch slave master p))
 
 pub log-tally : (setup : Setup) (budget : ℕ) (ch : Channel) (t u : Tally) (slave master : List ℕ) (p : Page)
-    → LoggedAlike (logOf setup budget (world ch t slave master) p) (logOf setup budget (world ch u slave master) p)
-unfolding logOf
+    → LoggedAlike (logRunOf setup budget (world ch t slave master) p) (logRunOf setup budget (world ch u slave master) p)
+unfolding logRunOf
 log-tally setup budget ch t u slave master p = by (readyVerdict setup ch (length slave) (length master))
   where
     by : (v : Verdict) → LoggedAlike (logBy setup v budget (world ch t slave master) p) (logBy setup v budget (world ch u slave master) p)

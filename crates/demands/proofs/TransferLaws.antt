@@ -16,7 +16,7 @@ use Rattle.channel.specs.declared.Phase.the-variants.{Granted}
 use Rattle.channel.specs.declared.Channel.{Channel}
 use Rattle.channel.specs.declared.Request.{Request}
 use Rattle.channel.specs.Channel.{hasRequest, requestOf, withRequest, Shaped}
-use Rattle.channel.specs.Line.{cleared, timed, lineRule}
+use Rattle.channel.specs.Line.{clearMarks, setAsked, lineRule}
 use Rattle.channel.proofs.RequestLaws.{request-other}
 use Rattle.sound.proofs.SoundFacts.{Sound, sound-is, accepted-is}
 use Rattle.frame.specs.declared.Order.{Order}
@@ -24,21 +24,21 @@ use Rattle.post.specs.Post.{requestIn, postVerdict, posted, postOf}
 use Rattle.post.proofs.PostLaws.{allowed}
 use Rattle.act.specs.declared.Entry.{Entry}
 use Rattle.act.specs.declared.Entry.the-variants.{Cycle as CycleLine}
-use Rattle.act.specs.Cycle.{pathOf, cycleBytes, cycleOf, movedOn, cycleEntry, cycleTurn}
+use Rattle.act.specs.Cycle.{routeOf, cycleBytes, cycleOf, movedOn, cycleEntry, cycleTurn}
 use Rattle.act.proofs.EndingLaws.{kept-inside}
 use Rattle.step.specs.declared.Plan.{Plan}
 use Rattle.step.specs.declared.Plan.the-variants as plan
 use Rattle.step.specs.Plan.{actPlan}
 use Rattle.step.specs.Step.{advancedBy, stepOf}
 use Rattle.step.proofs.PlanLaws.{says, plan-ready}
-use Rattle.step.proofs.KeepLaws.{pathAt, nextCycle, clockAt, restAt, here}
+use Rattle.step.proofs.KeepLaws.{routeAt, nextCycle, clockAt, restAt, here}
 use Rattle.demands.specs.History.{Moment, Act, posts, steps, noTally, next}
 use Rattle.demands.specs.Log.{added, logOf, isNextCycle, restOf, endsTransfer, runsOn}
 use Rattle.demands.proofs.KeptLaws.{by-ready, next-shaped}
 use Rattle.demands.proofs.OwnerLaws.{rule-phase, moved-phase, post-phase}
 
 pub rule-request : (ch : Channel) (l : ℕ) → requestOf (lineRule ch) l ≡ requestOf ch l
-unfolding timed cleared
+unfolding setAsked clearMarks
 rule-request ch l = refl
 
 open-same : (a b : Request) → a ≡ b → eqb (b .left) 0 ≡ false → not (eqb (a .left) 0) ≡ true
@@ -74,11 +74,13 @@ module _ (setup : Setup) (framed : isFramed setup ≡ true) (ch : Channel) (shap
   left-open left b e = by-test (eqb left 0) (λ t. absurd (false≢true (sym (rw t at e)))) (λ f. f)
 
   -- the log's words for the next cycle are those of the cycle itself
-  cycle-words : isNextCycle setup o (requestOf ch o) (CycleLine (cycleEntry (pathAt setup ch o) ch o (requestOf ch o .direction) (nextCycle setup ch o))) ≡ true
+  cycle-words : isNextCycle setup o (requestOf ch o)
+      (CycleLine (cycleEntry (routeAt setup ch o) ch o (requestOf ch o .direction) (nextCycle setup ch o)))
+      ≡ true
   unfolding cycleEntry cycleOf
   cycle-words =
       let q = requestOf ch o in
-      rw (eq-eqb o o refl, eq-eqb (q .address) (q .address) refl, eq-eqb (cycleBytes (pathOf setup o q) q) (cycleBytes (pathOf setup o q) q) refl)
+      rw (eq-eqb o o refl, eq-eqb (q .address) (q .address) refl, eq-eqb (cycleBytes (routeOf setup o q) q) (cycleBytes (routeOf setup o q) q) refl)
 
   rest-words : restAt setup ch o ≡ restOf setup o (requestOf ch o)
   unfolding cycleOf
@@ -94,12 +96,12 @@ module _ (setup : Setup) (framed : isFramed setup ≡ true) (ch : Channel) (shap
   unfolding cycleTurn
   cycle-on room n =
       let c = nextCycle setup ch o in
-      rw (kept-inside (pathAt setup ch o) (ch .asked) (clockAt setup ch o) c (ends-words ∙ n)) (
+      rw (kept-inside (routeAt setup ch o) (ch .asked) (clockAt setup ch o) c (ends-words ∙ n)) (
         rule-phase (movedOn ch o c) ∙ moved-phase ch o c ∙ phase,
         rule-request (movedOn ch o c) o ∙ here setup framed ch shaped s o phase asks room o refl ∙ rest-words,
       )
 
-  next-cycle : isNextCycle setup o (requestOf ch o) (cycleTurn (pathAt setup ch o) ch o (requestOf ch o .direction) (nextCycle setup ch o) .entry) ≡ true
+  next-cycle : isNextCycle setup o (requestOf ch o) (cycleTurn (routeAt setup ch o) ch o (requestOf ch o .direction) (nextCycle setup ch o) .entry) ≡ true
   unfolding cycleTurn
   next-cycle = cycle-words
 

@@ -28,7 +28,7 @@ pub record Byte : Type 0 where
 abbrev pub further : ℕ → Byte → Byte
 further i b = record { direction = b .direction; space = b .space; address = b .address + i; offset = b .offset + i }
 
--- so many bytes, one after the other
+-- n bytes, one after the other
 abbrev pub bytesFrom : ℕ → Byte → List Byte
 bytesFrom zero b = []
 bytesFrom (suc n) b = b ∷ bytesFrom n (further 1 b)
@@ -37,19 +37,19 @@ bytesFrom (suc n) b = b ∷ bytesFrom n (further 1 b)
 abbrev pub firstByte : Request → Byte
 firstByte q = record { direction = q .direction; space = q .space; address = q .address; offset = q .offset }
 
-abbrev pub bytesOf : Request → List Byte
-bytesOf q = bytesFrom (q .left) (firstByte q)
+abbrev pub requestBytes : Request → List Byte
+requestBytes q = bytesFrom (q .left) (firstByte q)
 
 -- the open bytes of a level
 abbrev pub openBytes : Moment → ℕ → List Byte
-openBytes m l = bytesOf (requestOf (m .channel) l)
+openBytes m l = requestBytes (requestOf (m .channel) l)
 
 -- an accepted post asks for the bytes of its request
 abbrev pub askedBy : Setup → Moment → ℕ → Act → List Byte
-askedBy setup m l (posts p) = cond (isAccepted (postVerdict setup (m .channel) p) && eqb (p .level) l) (bytesOf (requestIn p)) []
+askedBy setup m l (posts p) = cond (isAccepted (postVerdict setup (m .channel) p) && eqb (p .level) l) (requestBytes (requestIn p)) []
 askedBy setup m l steps = []
 
--- a cycle moves so many bytes from such an address, as the log shows; the space and the offset are those of its level's request
+-- a cycle moves the bytes that the log shows, from the address that it shows; the space and the offset are those of its level's request
 abbrev pub cycled : CycleEntry → Request → List Byte
 cycled entry q =
     bytesFrom (entry .bytes) (record { direction = entry .direction; space = q .space; address = entry .address; offset = q .offset })
@@ -83,18 +83,18 @@ movedBy setup m l (posts p) = []
 movedBy setup m l steps = movedFor (m .channel) l (answerAt setup m)
 
 -- over a history: asked in posting order, moved in log order
-abbrev pub asked : Setup → Moment → ℕ → List Act → List Byte
-asked setup m l [] = []
-asked setup m l (a ∷ acts) = askedBy setup m l a ++ asked setup (next setup m a) l acts
+abbrev pub askedBytes : Setup → Moment → ℕ → List Act → List Byte
+askedBytes setup m l [] = []
+askedBytes setup m l (a ∷ acts) = askedBy setup m l a ++ askedBytes setup (next setup m a) l acts
 
-abbrev pub moved : Setup → Moment → ℕ → List Act → List Byte
-moved setup m l [] = []
-moved setup m l (a ∷ acts) = movedBy setup m l a ++ moved setup (next setup m a) l acts
+abbrev pub movedBytes : Setup → Moment → ℕ → List Act → List Byte
+movedBytes setup m l [] = []
+movedBytes setup m l (a ∷ acts) = movedBy setup m l a ++ movedBytes setup (next setup m a) l acts
 
 -- the bytes of a level's cycles, added up from the log alone
-abbrev pub logged : ℕ → List Entry → ℕ
-logged l [] = 0
-logged l (Idle clock ∷ log) = logged l log
-logged l (Grant clock level ∷ log) = logged l log
-logged l (Cycle entry ∷ log) = cond (eqb (entry .level) l) (entry .bytes) 0 + logged l log
-logged l (Release clock level hold ∷ log) = logged l log
+abbrev pub loggedBytes : ℕ → List Entry → ℕ
+loggedBytes l [] = 0
+loggedBytes l (Idle clock ∷ log) = loggedBytes l log
+loggedBytes l (Grant clock level ∷ log) = loggedBytes l log
+loggedBytes l (Cycle entry ∷ log) = cond (eqb (entry .level) l) (entry .bytes) 0 + loggedBytes l log
+loggedBytes l (Release clock level hold ∷ log) = loggedBytes l log

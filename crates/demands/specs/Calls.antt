@@ -13,7 +13,7 @@ use Rattle.frame.specs.declared.Order.{Order}
 use Rattle.tally.specs.declared.Tally.{Tally}
 use Rattle.step.specs.Step.{stepOf, slaveAfter, masterAfter}
 use Rattle.step.specs.Run.{World, Out, world, runOf}
-use Rattle.step.specs.Log.{Page, LoggedOut, logOf as logRunOf}
+use Rattle.step.specs.Log.{Page, LoggedOut, logRunOf}
 use Rattle.demands.specs.History.{Moment, Act, posts, steps, next}
 
 -- "8: step, run: a lent store's length differs from the set-up"

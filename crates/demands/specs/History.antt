@@ -34,9 +34,9 @@ next setup m steps =
     }
 
 -- the moment after a history
-abbrev pub after : Setup → Moment → List Act → Moment
-after setup m [] = m
-after setup m (a ∷ acts) = after setup (next setup m a) acts
+abbrev pub momentAfter : Setup → Moment → List Act → Moment
+momentAfter setup m [] = m
+momentAfter setup m (a ∷ acts) = momentAfter setup (next setup m a) acts
 
 -- a channel of the program that isn't unsound. That the set-up keeps its frame and that the stores have its lengths is assumed nowhere: a post that is
 -- accepted and a step that is taken bring it, and any other act changes nothing.

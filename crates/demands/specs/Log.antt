@@ -12,7 +12,7 @@ use Rattle.act.specs.declared.Entry.{Entry}
 use Rattle.act.specs.declared.Entry.the-variants.{Idle, Grant, Cycle, Release}
 use Rattle.cycle.specs.Cycle.{isTransferEnd}
 use Rattle.channel.specs.declared.Request.{Request}
-use Rattle.act.specs.Cycle.{pathOf, cycleBytes, restAfter}
+use Rattle.act.specs.Cycle.{routeOf, cycleBytes, restAfter}
 use Rattle.step.specs.declared.StepAnswer.{StepAnswer}
 use Rattle.step.specs.declared.StepAnswer.the-variants.{Done, Refused}
 use Rattle.step.specs.Step.{stepOf}
@@ -30,15 +30,15 @@ logOf setup m (steps ∷ acts) =
     added (stepOf setup (m .channel) noTally (m .slave) (m .master) .answer) (logOf setup (next setup m steps) acts)
 
 -- who may be logged now: a grant only when nobody owns the channel, a cycle or a release only of the owner
-abbrev pub fits : Phase → Entry → Bool
-fits Arbitrating (Grant clock level) = true
-fits Arbitrating (Idle clock) = false
-fits Arbitrating (Cycle entry) = false
-fits Arbitrating (Release clock level hold) = false
-fits (Granted owner) (Grant clock level) = false
-fits (Granted owner) (Idle clock) = true
-fits (Granted owner) (Cycle entry) = eqb (entry .level) owner
-fits (Granted owner) (Release clock level hold) = eqb level owner
+abbrev pub mayLog : Phase → Entry → Bool
+mayLog Arbitrating (Grant clock level) = true
+mayLog Arbitrating (Idle clock) = false
+mayLog Arbitrating (Cycle entry) = false
+mayLog Arbitrating (Release clock level hold) = false
+mayLog (Granted owner) (Grant clock level) = false
+mayLog (Granted owner) (Idle clock) = true
+mayLog (Granted owner) (Cycle entry) = eqb (entry .level) owner
+mayLog (Granted owner) (Release clock level hold) = eqb level owner
 
 -- who owns the channel after an entry, read off the entry
 abbrev pub heldAfter : Phase → Ending → Phase
@@ -52,25 +52,25 @@ phaseAfter phase (Grant clock level) = Granted level
 phaseAfter phase (Cycle entry) = heldAfter phase (entry .ending)
 phaseAfter phase (Release clock level hold) = Arbitrating
 
--- "only between its grant and its release": a log in which every cycle stands behind a grant of its level, with neither a release nor another grant
+-- "only between its grant and its release": a log in which every cycle stands after a grant of its level, with neither a release nor another grant
 -- between them
 abbrev pub keepsToOwners : Phase → List Entry → Bool
 keepsToOwners phase [] = true
-keepsToOwners phase (entry ∷ log) = fits phase entry && keepsToOwners (phaseAfter phase entry) log
+keepsToOwners phase (entry ∷ log) = mayLog phase entry && keepsToOwners (phaseAfter phase entry) log
 
 -- the next cycle of a level's request
 abbrev pub isNextCycle : Setup → ℕ → Request → Entry → Bool
 isNextCycle setup owner q (Idle clock) = false
 isNextCycle setup owner q (Grant clock level) = false
 isNextCycle setup owner q (Cycle entry) =
-    (eqb (entry .level) owner && eqb (entry .address) (q .address)) && eqb (entry .bytes) (cycleBytes (pathOf setup owner q) q)
+    (eqb (entry .level) owner && eqb (entry .address) (q .address)) && eqb (entry .bytes) (cycleBytes (routeOf setup owner q) q)
 isNextCycle setup owner q (Release clock level hold) = false
 
 abbrev pub restOf : Setup → ℕ → Request → Request
-restOf setup owner q = restAfter q (cycleBytes (pathOf setup owner q) q)
+restOf setup owner q = restAfter q (cycleBytes (routeOf setup owner q) q)
 
 abbrev pub endsTransfer : Setup → ℕ → Request → Bool
-endsTransfer setup owner q = isTransferEnd (pathOf setup owner q .width) (restOf setup owner q .address) (restOf setup owner q .left)
+endsTransfer setup owner q = isTransferEnd (routeOf setup owner q .width) (restOf setup owner q .address) (restOf setup owner q .left)
 
 -- "A transfer ends when the next address is a multiple of W or the request is done.": a log that begins with the cycles of the owner's transfer, one
 -- after the other and nothing between them, up to that end or to the end of the log

@@ -5,46 +5,46 @@ use mathlib.Core.List.{List, [], _∷_}
 use lib.ListN.{getD}
 use lib.Dec.{eqb}
 use Rattle.frame.specs.declared.Setup.{Setup}
-use Rattle.frame.specs.declared.Place.{Place}
-use Rattle.frame.specs.declared.Place.the-variants.{Nowhere, At}
-use Rattle.frame.specs.Find.{placeOf}
+use Rattle.frame.specs.declared.StorePlace.{StorePlace}
+use Rattle.frame.specs.declared.StorePlace.the-variants.{Nowhere, At}
+use Rattle.frame.specs.Find.{storePlace}
 use Rattle.demands.specs.History.{Moment, Act, posts, steps, next}
 use Rattle.demands.specs.Bytes.{Byte, carried, answerAt}
 
 -- the two stores
 pub data Side : Type 0 where
-  slaves : Side
-  masters : Side
+  slaveSide : Side
+  masterSide : Side
 
 abbrev pub across : Side → Side
-across slaves = masters
-across masters = slaves
+across slaveSide = masterSide
+across masterSide = slaveSide
 
 abbrev pub storeOf : Side → Moment → List ℕ
-storeOf slaves m = m .slave
-storeOf masters m = m .master
+storeOf slaveSide m = m .slave
+storeOf masterSide m = m .master
 
 -- a byte's two ends: in the slave store where its row's bytes lie, in the master store at its offset
-abbrev pub endIn : Setup → Side → Byte → Place
-endIn setup slaves b = placeOf (setup .slaves) (b .space) (b .address)
-endIn setup masters b = At (b .offset)
+abbrev pub endIn : Setup → Side → Byte → StorePlace
+endIn setup slaveSide b = storePlace (setup .slaves) (b .space) (b .address)
+endIn setup masterSide b = At (b .offset)
 
 -- "direction (0 read: slave to master; 1 write)"
 abbrev pub goesTo : Side → Byte → Bool
-goesTo slaves b = eqb (b .direction) 1
-goesTo masters b = eqb (b .direction) 0
+goesTo slaveSide b = eqb (b .direction) 1
+goesTo masterSide b = eqb (b .direction) 0
 
-abbrev pub isAt : Place → ℕ → Bool
+abbrev pub isAt : StorePlace → ℕ → Bool
 isAt Nowhere x = false
 isAt (At k) x = eqb k x
 
 -- of the bytes of a cycle, the place across that the one into place x came from
-abbrev pub sourceIn : Setup → Side → ℕ → List Byte → Place
+abbrev pub sourceIn : Setup → Side → ℕ → List Byte → StorePlace
 sourceIn setup side x [] = Nowhere
 sourceIn setup side x (b ∷ bytes) =
     cond (goesTo side b && isAt (endIn setup side b) x) (endIn setup (across side) b) (sourceIn setup side x bytes)
 
-abbrev pub sourceBy : Setup → Side → ℕ → Moment → Act → Place
+abbrev pub sourceBy : Setup → Side → ℕ → Moment → Act → StorePlace
 sourceBy setup side x m (posts p) = Nowhere
 sourceBy setup side x m steps = sourceIn setup side x (carried (m .channel) (answerAt setup m))
 
@@ -53,7 +53,7 @@ pub data Origin : Type 0 where
   start : Origin
   cycle : Moment → ℕ → Origin
 
-abbrev pub broughtFrom : Moment → Place → Origin
+abbrev pub broughtFrom : Moment → StorePlace → Origin
 broughtFrom before Nowhere = start
 broughtFrom before (At k) = cycle before k
 

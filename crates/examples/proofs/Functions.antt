@@ -85,8 +85,8 @@ module _ {M : Type 1} (𝓤 : URA M) (H : Heap 𝓤) (A : Atoms 𝓤) (mem : Mem
   of-cycle : One cycle.is_width.ended cycle.is_width.clauses
       × One cycle.is_port.ended cycle.is_port.clauses
       × One cycle.is_length.ended cycle.is_length.clauses
-      × One cycle.narrow.ended cycle.narrow.clauses
-      × One cycle.tabled.ended cycle.tabled.clauses
+      × One cycle.narrower_of.ended cycle.narrower_of.clauses
+      × One cycle.tabled_length.ended cycle.tabled_length.clauses
       × One cycle.cycle_length.ended cycle.cycle_length.clauses
       × One cycle.transfer_length.ended cycle.transfer_length.clauses
       × One cycle.is_transfer_end.ended cycle.is_transfer_end.clauses
@@ -123,7 +123,7 @@ module _ {M : Type 1} (𝓤 : URA M) (H : Heap 𝓤) (A : Atoms 𝓤) (mem : Mem
       × One frame.bad_rows.ended frame.bad_rows.clauses
       × One frame.with_count.ended frame.with_count.clauses
       × One frame.put_row.ended frame.put_row.clauses
-      × One frame.slave_store.ended frame.slave_store.clauses
+      × One frame.fitting_store.ended frame.fitting_store.clauses
       × One frame.framed_store.ended frame.framed_store.clauses
       × One frame.is_framed.ended frame.is_framed.clauses
       × One frame.has_burst.ended frame.has_burst.clauses
@@ -135,7 +135,7 @@ module _ {M : Type 1} (𝓤 : URA M) (H : Heap 𝓤) (A : Atoms 𝓤) (mem : Mem
       × One frame.row_holds.ended frame.row_holds.clauses
       × One frame.slave_row.ended frame.slave_row.clauses
       × One frame.slave_store_length.ended frame.slave_store_length.clauses
-      × One frame.place_of.ended frame.place_of.clauses
+      × One frame.store_place.ended frame.store_place.clauses
   of-frame = (
     λ κs a g. alone 𝓤 _ (λ v w. refl),
     λ κs a g. alone 𝓤 _ (λ v w. refl),
@@ -165,10 +165,10 @@ module _ {M : Type 1} (𝓤 : URA M) (H : Heap 𝓤) (A : Atoms 𝓤) (mem : Mem
   )
 
   of-channel : One channel.owner_of.ended channel.owner_of.clauses
-      × One channel.place_of.ended channel.place_of.clauses
+      × One channel.owner_place.ended channel.owner_place.clauses
       × One channel.no_request.ended channel.no_request.clauses
       × One channel.request_of.ended channel.request_of.clauses
-      × One channel.put_request.ended channel.put_request.clauses
+      × One channel.with_request.ended channel.with_request.clauses
       × One channel.slave_of.ended channel.slave_of.clauses
       × One channel.line_active.ended channel.line_active.clauses
       × One channel.winner_from.ended channel.winner_from.clauses
@@ -191,7 +191,7 @@ module _ {M : Type 1} (𝓤 : URA M) (H : Heap 𝓤) (A : Atoms 𝓤) (mem : Mem
     λ κs a g. alone 𝓤 _ (λ v w. refl),
   )
 
-  of-act : One act.path_of.ended act.path_of.clauses
+  of-act : One act.route_of.ended act.route_of.clauses
       × One act.released_by.ended act.released_by.clauses
       × One act.is_kept.ended act.is_kept.clauses
       × One act.is_marked.ended act.is_marked.clauses
@@ -235,7 +235,7 @@ module _ {M : Type 1} (𝓤 : URA M) (H : Heap 𝓤) (A : Atoms 𝓤) (mem : Mem
 
   of-step : One step.ready_verdict.ended step.ready_verdict.clauses
       × One step.plan_of.ended step.plan_of.clauses
-      × One step.decide.ended step.decide.clauses
+      × One step.decision_of.ended step.decision_of.clauses
       × One step.carry_bytes.ended step.carry_bytes.clauses
       × One step.step.ended step.step.clauses
       × One step.run.ended step.run.clauses

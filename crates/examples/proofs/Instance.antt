@@ -7,11 +7,11 @@ use mathlib.Core.List.{_∷_, _++_}
 use lib.ListN.{getD}
 use Rattle.channel.specs.declared.Phase.the-variants.{Arbitrating}
 use Rattle.channel.specs.Channel.{requestOf}
-use Rattle.demands.specs.History.{Act, posts, steps, next, after}
+use Rattle.demands.specs.History.{Act, posts, steps, next, momentAfter}
 use Rattle.demands.specs.Calls.{calledAll}
 use Rattle.demands.specs.Log.{logOf, keepsToOwners, runsOn}
-use Rattle.demands.specs.Bytes.{openBytes, moved}
-use Rattle.demands.specs.Stores.{slaves, brought}
+use Rattle.demands.specs.Bytes.{openBytes, movedBytes}
+use Rattle.demands.specs.Stores.{slaveSide, brought}
 use Rattle.demands.specs.Demand.{bytesAsked, bytesMoved, AfterSetUp}
 use Rattle.demands.proofs.KeptLaws.{always}
 use Rattle.demands.proofs.CallLaws.{calls-are-acts}
@@ -25,11 +25,11 @@ met : AfterSetUp setup slave master calls
 met = after-set-up setup slave master calls
 
 -- its calls are its posts and steps, and by runs they come to the same moment
-now : calledAll setup begin calls ≡ after setup begin acts
+now : calledAll setup begin calls ≡ momentAfter setup begin acts
 now = calls-are-acts setup begin calls
 
-by-runs : calledAll setup begin asRuns ≡ after setup begin acts
-by-runs = calls-are-acts setup begin asRuns ∙ ap (after setup begin) (history .as-runs)
+by-runs : calledAll setup begin asRuns ≡ momentAfter setup begin acts
+by-runs = calls-are-acts setup begin asRuns ∙ ap (momentAfter setup begin) (history .as-runs)
 
 -- "per level, bytes asked = bytes moved + bytes open": 7 = 7 + 0 and 2 = 2 + 0
 sums-3 : (bytesAsked setup begin 3 acts ≡ 7 + 0) × (bytesMoved setup begin 3 acts ≡ 7)
@@ -40,10 +40,10 @@ sums-7 = (met .sums 7 ∙ rw (history .open-7, history .log) refl, rw (history .
 
 -- "its cycles cover its requests in posting order, each byte once": the bytes from 4097 on go through level 3's cycles, and the two from 4096 on
 -- through level 7's
-order-3 : moved setup begin 3 acts ++ openBytes (after setup begin acts) 3 ≡ bytesOf3
+order-3 : movedBytes setup begin 3 acts ++ openBytes (momentAfter setup begin acts) 3 ≡ bytesOf3
 order-3 = sym (met .order 3) ∙ history .asked-3
 
-order-7 : moved setup begin 7 acts ++ openBytes (after setup begin acts) 7 ≡ bytesOf7
+order-7 : movedBytes setup begin 7 acts ++ openBytes (momentAfter setup begin acts) 7 ≡ bytesOf7
 order-7 = sym (met .order 7) ∙ history .asked-7
 
 -- "only between its grant and its release"
@@ -52,20 +52,20 @@ owners = rw (history .log) at (met .owners)
 
 -- "every store byte is the source byte .. that the last cycle into it carried, or its starting value": byte 3 of the slave store is the master's byte 2,
 -- and byte 0 is its starting value
-came : getD (after setup begin acts .slave) 3 0 ≡ 2
-came = met .stores slaves 3 ∙ history .into-3
+came : getD (momentAfter setup begin acts .slave) 3 0 ≡ 2
+came = met .stores slaveSide 3 ∙ history .into-3
 
-stayed : getD (after setup begin acts .slave) 0 0 ≡ 0
-stayed = met .stores slaves 0 ∙ ap (brought slaves 0 begin) (history .into-0)
+stayed : getD (momentAfter setup begin acts .slave) 0 0 ≡ 0
+stayed = met .stores slaveSide 0 ∙ ap (brought slaveSide 0 begin) (history .into-0)
 
 -- "no owner holds the channel more than 7,800 ns past the first moment ..": level 7 waits for level 3 since 300, and whatever the host does next, it is not
 -- later than 8,100 then
-in-time : (a : Act) → next setup (after setup begin until) a .channel .clock ≤ 300 + 7800
+in-time : (a : Act) → next setup (momentAfter setup begin until) a .channel .clock ≤ 300 + 7800
 in-time = met .hold until later refl 3 300 (history .first-moment)
 
 -- after its grant level 3 has the cycles of its transfer one after the other, though level 7 comes to wait inside it
-transfer : runsOn setup 3 (requestOf (after setup begin before .channel) 3)
-    (logOf setup (after setup begin before) (steps ∷ posts second ∷ later)) ≡ true
+transfer : runsOn setup 3 (requestOf (momentAfter setup begin before .channel) 3)
+    (logOf setup (momentAfter setup begin before) (steps ∷ posts second ∷ later)) ≡ true
 transfer =
-    whole-transfer setup (after setup begin before) (steps ∷ posts second ∷ later) 3
+    whole-transfer setup (momentAfter setup begin before) (steps ∷ posts second ∷ later) 3
     (always setup begin before (fresh-start setup slave master) .shaped) (history .owner) (history .request)

@@ -11,11 +11,11 @@ use borrow.Author.Tests.{eqb-true, eq-eqb, le-ltb, lt-ltb}
 use Rattle.basics.specs.Limits.{memoryEnd, stepsMost}
 use Rattle.basics.proofs.Tests.{by-test, and-left, and-right}
 use Rattle.refusal.specs.declared.Refusal.{Refusal}
-use Rattle.refusal.specs.Refusal.{numberOf, refusalBy, refusedBy, verdictNumber}
+use Rattle.refusal.specs.Refusal.{refusalNumber, refusalBy, refusedBy, verdictNumber}
 use Rattle.refusal.specs.declared.Verdict.{Verdict}
 use Rattle.refusal.specs.declared.Verdict.the-variants.{Accepted, Refused}
 use Rattle.refusal.proofs.NumberLaws.{not-zero}
-use Rattle.number.specs.Number.{hasRoom, wholeAt, writtenNumbers}
+use Rattle.number.specs.Number.{hasNumberRoom, wholeAt, writtenNumbers}
 use Rattle.cycle.specs.Cycle.{isLength, isWidth, isPort, cycleCount}
 use Rattle.frame.specs.declared.Setup.{Setup}
 use Rattle.frame.specs.declared.RowKind.{RowKind}
@@ -33,9 +33,9 @@ use Rattle.sound.specs.Request.{requestVerdict}
 use Rattle.frame.specs.declared.Order.{Order}
 use Rattle.post.specs.Post.{requestIn, postVerdict, postOf}
 use Rattle.act.specs.declared.Entry.{Entry}
-use Rattle.act.specs.Cycle.{pathOf, cycleOf}
+use Rattle.act.specs.Cycle.{routeOf, cycleOf}
 use Rattle.act.specs.Turn.{arbitrationTime}
-use Rattle.logline.specs.Text.{hasRoom as lineRoom}
+use Rattle.logline.specs.Text.{hasRoomIn as lineRoom}
 use Rattle.tally.specs.declared.Tally.{Tally}
 use Rattle.step.specs.declared.Plan.{Plan}
 use Rattle.step.specs.declared.Plan.the-variants as plan
@@ -44,16 +44,16 @@ use Rattle.step.specs.declared.StepAnswer.the-variants.{Done, Refused as NotDon
 use Rattle.step.specs.Plan.{readyVerdict, planBy, planOf, ownerPlan, actPlan, phasePlan}
 use Rattle.step.specs.Step.{Ready, planNumbers, stepNumbers, advancedBy, stepOf}
 use Rattle.step.proofs.PlanLaws.{ready-is}
-use Rattle.step.specs.Run.{World, Out, ended, stepIn, after, goOn, runFrom, runOf}
-use Rattle.step.specs.Log.{Page, lined, LoggedOut, closed, logOn, logFrom, logOf}
+use Rattle.step.specs.Run.{World, Out, stopped, stepIn, worldAfter, goOn, runFrom, runOf}
+use Rattle.step.specs.Log.{Page, pageAfter, LoggedOut, closed, logOn, logFrom, logRunOf}
 use Rattle.step.proofs.TurnLaws.{ready-next}
 use Rattle.numbers.specs.declared.Part.{Part}
 use Rattle.numbers.specs.declared.Part.the-variants.{Good, Fault}
 use Rattle.sheet.specs.Sheet.{answered, sheetNumbers}
 use Rattle.examples.specs.Numbers.{
-  Row,
+  RefusalRow,
   badTold,
-  firstOf,
+  firstNumber,
   broken,
   unsound,
   otherLength,
@@ -71,30 +71,31 @@ use Rattle.examples.specs.Numbers.{
 }
 
 -- the numbers of the rows are numbers of the table
-abbrev areNumbers : List Row → Bool
+abbrev areNumbers : List RefusalRow → Bool
 areNumbers [] = true
-areNumbers ((n, holds) ∷ rows) = eqb (numberOf (refusalBy n)) n && areNumbers rows
+areNumbers ((n, holds) ∷ rows) = eqb (refusalNumber (refusalBy n)) n && areNumbers rows
 
 -- rows of a verdict, and what follows where none of them holds, whatever is made of the verdict
-rows-told : (told : Verdict → ℕ) → ((r : Refusal) → told (Refused r) ≡ numberOf r) → (rows more : List Row) (v : Verdict)
-    → areNumbers rows ≡ true → told v ≡ firstOf more → told (refusedBy rows v) ≡ firstOf (rows ++ more)
+rows-told : (told : Verdict → ℕ) → ((r : Refusal) → told (Refused r) ≡ refusalNumber r) → (rows more : List RefusalRow) (v : Verdict)
+    → areNumbers rows ≡ true → told v ≡ firstNumber more → told (refusedBy rows v) ≡ firstNumber (rows ++ more)
 rows-told told by [] more v are rest = rest
-rows-told told by ((n, true) ∷ rows) more v are rest = by (refusalBy n) ∙ eqb-true _ n (and-left (eqb (numberOf (refusalBy n)) n) (areNumbers rows) are)
-rows-told told by ((n, false) ∷ rows) more v are rest = rows-told told by rows more v (and-right (eqb (numberOf (refusalBy n)) n) (areNumbers rows) are) rest
+rows-told told by ((n, true) ∷ rows) more v are rest = by (refusalBy n) ∙ eqb-true _ n (and-left (eqb (refusalNumber (refusalBy n)) n) (areNumbers rows) are)
+rows-told told by ((n, false) ∷ rows) more v are rest =
+    rows-told told by rows more v (and-right (eqb (refusalNumber (refusalBy n)) n) (areNumbers rows) are) rest
 
-rows-number : (rows more : List Row) (v : Verdict) → areNumbers rows ≡ true → verdictNumber v ≡ firstOf more
-    → verdictNumber (refusedBy rows v) ≡ firstOf (rows ++ more)
+rows-number : (rows more : List RefusalRow) (v : Verdict) → areNumbers rows ≡ true → verdictNumber v ≡ firstNumber more
+    → verdictNumber (refusedBy rows v) ≡ firstNumber (rows ++ more)
 rows-number rows more v are rest = rows-told verdictNumber (λ r. refl) rows more v are rest
 
-pub set-up-number : (setup : Setup) → verdictNumber (setUp setup .verdict) ≡ firstOf (broken setup ∷ [])
+pub set-up-number : (setup : Setup) → verdictNumber (setUp setup .verdict) ≡ firstNumber (broken setup ∷ [])
 unfolding setUp
 set-up-number setup = rows-number (broken setup ∷ []) [] Accepted refl refl
 
-pub request-number : (setup : Setup) (l : ℕ) (q : Request) → verdictNumber (requestVerdict setup l q) ≡ firstOf (requestRows setup q)
+pub request-number : (setup : Setup) (l : ℕ) (q : Request) → verdictNumber (requestVerdict setup l q) ≡ firstNumber (requestRows setup q)
 unfolding requestVerdict
 request-number setup l q = rows-number (requestRows setup q) [] Accepted refl refl
 
-pub post-number : (setup : Setup) (ch : Channel) (p : Order) → verdictNumber (postOf setup ch p .verdict) ≡ firstOf (postRows setup ch p)
+pub post-number : (setup : Setup) (ch : Channel) (p : Order) → verdictNumber (postOf setup ch p .verdict) ≡ firstNumber (postRows setup ch p)
 unfolding postOf postVerdict
 post-number setup ch p =
     rows-number
@@ -104,7 +105,7 @@ post-number setup ch p =
     refl
     (request-number setup (p .level) (requestIn p))
 
-pub count-number : (a n w p : ℕ) → verdictNumber (cycleCount a n w p .verdict) ≡ firstOf (countRows a n w p)
+pub count-number : (a n w p : ℕ) → verdictNumber (cycleCount a n w p .verdict) ≡ firstNumber (countRows a n w p)
 unfolding cycleCount
 count-number a n w p =
     by-test (not (isLength n && (isWidth w && isPort p)))
@@ -112,7 +113,7 @@ count-number a n w p =
     (λ f. by-test (ltb memoryEnd (a + n)) (λ t. rw (f, t)) (λ g. rw (f, g)))
 
 pub ready-number : (setup : Setup) (ch : Channel) (slave master : ℕ)
-    → verdictNumber (readyVerdict setup ch slave master) ≡ firstOf (unsound setup ch ∷ otherLength setup slave master ∷ [])
+    → verdictNumber (readyVerdict setup ch slave master) ≡ firstNumber (unsound setup ch ∷ otherLength setup slave master ∷ [])
 unfolding readyVerdict
 ready-number setup ch slave master = rows-number (unsound setup ch ∷ otherLength setup slave master ∷ []) [] Accepted refl refl
 
@@ -128,8 +129,8 @@ resting : (b : Bool) (o : ℕ) → first (planNumbers (cond b (plan.Leave o) pla
 resting true o = refl
 resting false o = refl
 
-phase-number : (setup : Setup) (ch : Channel) (p : Phase) → first (planNumbers (phasePlan setup ch p)) ≡ firstOf ((6, passes setup ch p) ∷ [])
-unfolding ownerPlan cycleOf pathOf
+phase-number : (setup : Setup) (ch : Channel) (p : Phase) → first (planNumbers (phasePlan setup ch p)) ≡ firstNumber ((6, passes setup ch p) ∷ [])
+unfolding ownerPlan cycleOf routeOf
 phase-number setup ch Arbitrating = full (isOver ch arbitrationTime) (plan.Grant (winner (ch .left) (ch .inactive))) refl
 phase-number setup ch (Granted o) =
     by-test (eqb (requestOf ch o .left) 0)
@@ -137,7 +138,7 @@ phase-number setup ch (Granted o) =
     (λ f. rw f (full (isOver ch (slaveOf (setup .slaves) (requestOf ch o) .time)) (plan.Cycle o) refl))
 
 pub plan-number : (setup : Setup) (ch : Channel) (slave master : ℕ)
-    → first (planNumbers (planOf setup ch slave master)) ≡ firstOf (stepRows setup ch slave master)
+    → first (planNumbers (planOf setup ch slave master)) ≡ firstNumber (stepRows setup ch slave master)
 unfolding planOf readyVerdict actPlan
 plan-number setup ch slave master =
     rows-told (λ v. first (planNumbers (planBy setup ch v))) (λ r. refl)
@@ -155,15 +156,15 @@ as-planned setup ch (plan.Leave o) = refl
 as-planned setup ch (plan.Cycle o) = refl
 
 pub step-number : (setup : Setup) (ch : Channel) (t : Tally) (slave master : List ℕ)
-    → first (stepNumbers (stepOf setup ch t slave master .answer)) ≡ firstOf (stepRows setup ch (length slave) (length master))
+    → first (stepNumbers (stepOf setup ch t slave master .answer)) ≡ firstNumber (stepRows setup ch (length slave) (length master))
 unfolding stepOf
 step-number setup ch t slave master =
     as-planned setup ch (planOf setup ch (length slave) (length master)) ∙ plan-number setup ch (length slave) (length master)
 
 pub written-told : (s : List ℕ) (at : ℕ) (what : List ℕ) → writtenNumbers (wholeAt s at what) ≡ writtenTold s at what
-written-told s at what = by-test (hasRoom s at what) (λ t. rw t) (λ f. rw f)
+written-told s at what = by-test (hasNumberRoom s at what) (λ t. rw t) (λ f. rw f)
 
-pub bad-told : (kind : RowKind) → numberOf (badRows kind) ≡ badTold kind
+pub bad-told : (kind : RowKind) → refusalNumber (badRows kind) ≡ badTold kind
 bad-told Levels = refl
 bad-told Slaves = refl
 
@@ -179,27 +180,27 @@ pub record Runnable (setup : Setup) (w : World) : Type 0 where
   pub shaped : Shaped (w .channel)
 
 module _ (setup : Setup) (w : World) (s : Runnable setup w) where
-  ready-rows : firstOf (stepRows setup (w .channel) (length (w .slave)) (length (w .master)))
-      ≡ firstOf ((6, passes setup (w .channel) (w .channel .phase)) ∷ [])
+  ready-rows : firstNumber (stepRows setup (w .channel) (length (w .slave)) (length (w .master)))
+      ≡ firstNumber ((6, passes setup (w .channel) (w .channel .phase)) ∷ [])
   ready-rows =
       let r = s .ready in
       rw (r .framed, r .sound, eq-eqb (length (w .slave)) _ (r .slave), eq-eqb (length (w .master)) _ (r .master))
 
   -- a step of a channel that is ready is refused by 6 alone
-  only-six : (why : Refusal) → stepIn setup w .answer ≡ NotDone why → numberOf why ≡ 6
+  only-six : (why : Refusal) → stepIn setup w .answer ≡ NotDone why → refusalNumber why ≡ 6
   only-six why q =
-      let e : numberOf why ≡ firstOf ((6, passes setup (w .channel) (w .channel .phase)) ∷ []) =
+      let e : refusalNumber why ≡ firstNumber ((6, passes setup (w .channel) (w .channel .phase)) ∷ []) =
       ap (λ a. first (stepNumbers a)) (sym q)
       ∙ step-number setup (w .channel) (w .tally) (w .slave) (w .master)
       ∙ ready-rows in
       by-test (passes setup (w .channel) (w .channel .phase)) (λ t. rw t at e) (λ f. absurd (not-zero why (rw f at e)))
 
-  kept : Runnable setup (after setup w)
+  kept : Runnable setup (worldAfter setup w)
   kept =
       let k = ready-next setup (w .channel) (w .tally) (w .slave) (w .master) (s .ready) (s .shaped) in
       record { ready = k .0; shaped = k .1 }
 
--- of so many steps in all it takes no more, and it has 6 where it takes fewer, and else 0
+-- of `all` steps it takes no more, and it has 6 where it takes fewer, and else 0
 abbrev Stopped : ℕ → Out → Type 0
 Stopped all out = (out .result .steps ≤ all) × (verdictNumber (out .result .verdict) ≡ cond (ltb (out .result .steps) all) 6 0)
 
@@ -207,10 +208,10 @@ run-from : (setup : Setup) (left done : ℕ) (w : World) → Runnable setup w �
 unfolding runFrom
 run-from setup zero done w s = (omega arith, rw (le-ltb done (done + 0) (omega arith)))
 run-from setup (suc left) done w s =
-    goes (stepIn setup w .answer) refl (run-from setup left (suc done) (after setup w) (kept setup w s))
+    goes (stepIn setup w .answer) refl (run-from setup left (suc done) (worldAfter setup w) (kept setup w s))
   where
-    goes : (a : StepAnswer) → stepIn setup w .answer ≡ a → Stopped (suc done + left) (runFrom setup left (suc done) (after setup w))
-        → Stopped (done + suc left) (goOn a (runFrom setup left (suc done) (after setup w)) (λ (v : Verdict). ended v done w))
+    goes : (a : StepAnswer) → stepIn setup w .answer ≡ a → Stopped (suc done + left) (runFrom setup left (suc done) (worldAfter setup w))
+        → Stopped (done + suc left) (goOn a (runFrom setup left (suc done) (worldAfter setup w)) (λ (v : Verdict). stopped v done w))
     goes (Done e) q later = let more : suc done + left ≡ done + suc left = omega arith in rw more at later
     goes (NotDone why) q later = (omega arith, rw (lt-ltb done (done + suc left) (omega arith)) (only-six setup w s why q))
 
@@ -220,7 +221,7 @@ ready-start : (setup : Setup) (w : World) → Shaped (w .channel)
 ready-start setup w k e = record { ready = ready-is setup (w .channel) (length (w .slave)) (length (w .master)) e; shaped = k }
 
 pub run-number : (setup : Setup) (budget : ℕ) (w : World) → Shaped (w .channel)
-    → verdictNumber (runOf setup budget w .result .verdict) ≡ firstOf (runRows setup budget w)
+    → verdictNumber (runOf setup budget w .result .verdict) ≡ firstNumber (runRows setup budget w)
 unfolding runOf readyVerdict
 run-number setup budget w k =
     by-test (unsound setup (w .channel) .1) (λ t. rw t) (λ f.
@@ -240,19 +241,20 @@ unfolding logFrom
 log-from setup zero done w p s = (omega arith, rw (le-ltb done (done + 0) (omega arith)))
 log-from setup (suc left) done w p s =
     by-test (lineRoom (p .out) (p .at))
-    (λ t. rw t (goes t (λ e. log-from setup left (suc done) (after setup w) (lined p e) (kept setup w s)) (stepIn setup w .answer) refl))
+    (λ t. rw t (goes t (λ e. log-from setup left (suc done) (worldAfter setup w) (pageAfter p e) (kept setup w s)) (stepIn setup w .answer) refl))
     (λ f. rw f (omega arith, rw (lt-ltb done (done + suc left) (omega arith), f)))
   where
     goes : lineRoom (p .out) (p .at) ≡ true
-        → ((e : Entry) → LogStopped (suc done + left) (logFrom setup left (suc done) (after setup w) (lined p e))) → (a : StepAnswer) → stepIn setup w .answer ≡ a
+        → ((e : Entry) → LogStopped (suc done + left) (logFrom setup left (suc done) (worldAfter setup w) (pageAfter p e)))
+        → (a : StepAnswer) → stepIn setup w .answer ≡ a
         → LogStopped (done + suc left)
-        (logOn a (λ (entry : Entry). logFrom setup left (suc done) (after setup w) (lined p entry)) (λ (v : Verdict). closed v done w p))
+        (logOn a (λ (entry : Entry). logFrom setup left (suc done) (worldAfter setup w) (pageAfter p entry)) (λ (v : Verdict). closed v done w p))
     goes t later (Done e) q = let more : suc done + left ≡ done + suc left = omega arith in rw more at (later e)
     goes t later (NotDone why) q = (omega arith, rw (lt-ltb done (done + suc left) (omega arith), t) (only-six setup w s why q))
 
 pub log-number : (setup : Setup) (budget : ℕ) (w : World) (p : Page) → Shaped (w .channel)
-    → verdictNumber (logOf setup budget w p .result .ran .verdict) ≡ firstOf (logRows setup budget w p)
-unfolding logOf readyVerdict
+    → verdictNumber (logRunOf setup budget w p .result .ran .verdict) ≡ firstNumber (logRows setup budget w p)
+unfolding logRunOf readyVerdict
 log-number setup budget w p k =
     by-test (unsound setup (w .channel) .1) (λ t. rw t) (λ f.
     by-test (otherLength setup (length (w .slave)) (length (w .master)) .1) (λ t. rw (f, t)) (λ g.

@@ -1,6 +1,6 @@
 -- "Each enum answer has a definition that gives this paper's number and values for each of its cases. The promises use that definition.": of every call that
 -- can be refused, by its contract as the checker has it. Whatever outcome satisfies the contract, its answer, read through the answer's own definition, has the
--- number that the table of specs/Numbers gives; a number's 10 and 11 and a sheet's 10 to 16 are those of the definitions `readAt` and `sheet`.
+-- number that the table of specs/Numbers gives; a number's 10 and 11 and a sheet's 10 to 16 are those of the definitions `readNumber` and `sheet`.
 -- `tests/statements` fails where a call is left out.
 use mathlib.Core.Path.{_≡_, refl, sym, subst}
 use mathlib.Core.List.{[], _∷_}
@@ -15,12 +15,12 @@ use contract.Monad.{Fun, fact, fact-mono}
 use contract.Lifetimes.{Lfts}
 use denote.Triple.Entry.{Args, Res}
 use denote.Triple.Clauses.{Ended, Lasts, atExit}
-use Rattle.refusal.specs.Refusal.{numberOf, verdictNumber}
+use Rattle.refusal.specs.Refusal.{refusalNumber, verdictNumber}
 use Rattle.refusal.specs.declared.Refusal.{Refusal}
 use Rattle.refusal.specs.declared.Verdict.{Verdict}
 use Rattle.number.specs.declared.NumberRead.{NumberRead}
 use Rattle.number.specs.declared.NumberWritten.{NumberWritten}
-use Rattle.number.specs.Number.{readAt, readNumbers, bytesOf, writtenAt, writtenNumbers}
+use Rattle.number.specs.Number.{readNumber, readNumbers, bytesOf, writeNumber, writtenNumbers}
 use Rattle.cycle.specs.declared.Counted.{Counted}
 use Rattle.channel.specs.declared.Judged.{Judged}
 use Rattle.channel.specs.Channel.{Shaped}
@@ -36,7 +36,7 @@ use Rattle.sheet.specs.declared.SheetAnswer.{SheetAnswer}
 use Rattle.numbers.specs.declared.Taken.{Taken}
 use Rattle.numbers.specs.Numbers.{listAt, numberAt, numberBetween, numbersAt, partNumbers, numbersOf, allBytes, copyNumbers, writeNumbers}
 use Rattle.sheet.specs.declared.RowsRead.{RowsRead}
-use Rattle.sheet.specs.Sheet.{sheet as judged, headOf, readAnswer, writeAnswer, sheetNumbers}
+use Rattle.sheet.specs.Sheet.{sheet as judged, headOf, readSheet, writeSheet, sheetNumbers}
 use Rattle.number.proofs as number
 use Rattle.numbers.proofs as numbers
 use Rattle.cycle.proofs as cycle
@@ -48,7 +48,7 @@ use Rattle.step.proofs as step
 use Rattle.lent.proofs as lent
 use Rattle.sheet.proofs as sheet
 use Rattle.examples.specs.Numbers.{
-  firstOf,
+  firstNumber,
   broken,
   unsound,
   otherLength,
@@ -107,37 +107,37 @@ module _ {M : Type 1} (𝓤 : URA M) (H : Heap 𝓤) (A : Atoms 𝓤) (mem : Mem
       → ent 𝓤 (sep 𝓤 (fact 𝓤 (r ≡ d)) (sep 𝓤 (fact 𝓤 P) (sep 𝓤 (fact 𝓤 Q) (fact 𝓤 S)))) (fact 𝓤 (K r))
   lent-three d K k r P Q S = first-of d K k r (sep 𝓤 (fact 𝓤 P) (sep 𝓤 (fact 𝓤 Q) (fact 𝓤 S)))
 
-  of-set-up : Tells channel.set_up.ended channel.set_up.clauses (λ κs a (r : Judged). verdictNumber (r .verdict) ≡ firstOf (broken (a .0) ∷ []))
+  of-set-up : Tells channel.set_up.ended channel.set_up.clauses (λ κs a (r : Judged). verdictNumber (r .verdict) ≡ firstNumber (broken (a .0) ∷ []))
   of-set-up κs a g r ws = alone _ (λ (r : Judged). verdictNumber (r .verdict) ≡ _) (set-up-number (a .0)) r
 
   of-post : Tells post.post.ended post.post.clauses
-      (λ κs a (r : Judged). verdictNumber (r .verdict) ≡ firstOf (postRows (a .0) (a .1 .0) (a .1 .1 .0)))
+      (λ κs a (r : Judged). verdictNumber (r .verdict) ≡ firstNumber (postRows (a .0) (a .1 .0) (a .1 .1 .0)))
   of-post κs a g r ws =
       alone _ (λ (r : Judged). verdictNumber (r .verdict) ≡ _) (post-number (a .0) (a .1 .0) (a .1 .1 .0)) r
 
   of-request-verdict : Tells sound.request_verdict.ended sound.request_verdict.clauses
-      (λ κs a (r : Verdict). verdictNumber r ≡ firstOf (requestRows (a .0) (a .1 .1 .0)))
+      (λ κs a (r : Verdict). verdictNumber r ≡ firstNumber (requestRows (a .0) (a .1 .1 .0)))
   of-request-verdict κs a g r ws = alone _ (λ (r : Verdict). verdictNumber r ≡ _) (request-number (a .0) (a .1 .0) (a .1 .1 .0)) r
 
   of-cycle-count : Tells cycle.cycle_count.ended cycle.cycle_count.clauses
-      (λ κs a (r : Counted). verdictNumber (r .verdict) ≡ firstOf (countRows (a .0) (a .1 .0) (a .1 .1 .0) (a .1 .1 .1 .0)))
+      (λ κs a (r : Counted). verdictNumber (r .verdict) ≡ firstNumber (countRows (a .0) (a .1 .0) (a .1 .1 .0) (a .1 .1 .1 .0)))
   of-cycle-count κs a g r ws =
       alone _ (λ (r : Counted). verdictNumber (r .verdict) ≡ _) (count-number (a .0) (a .1 .0) (a .1 .1 .0) (a .1 .1 .1 .0)) r
 
   of-ready-verdict : Tells step.ready_verdict.ended step.ready_verdict.clauses
       (λ κs a (r : Verdict).
-      verdictNumber r ≡ firstOf (unsound (a .0) (a .1 .0) ∷ otherLength (a .0) (a .1 .1 .0) (a .1 .1 .1 .0) ∷ []))
+      verdictNumber r ≡ firstNumber (unsound (a .0) (a .1 .0) ∷ otherLength (a .0) (a .1 .1 .0) (a .1 .1 .1 .0) ∷ []))
   of-ready-verdict κs a g r ws =
       alone _ (λ (r : Verdict). verdictNumber r ≡ _) (ready-number (a .0) (a .1 .0) (a .1 .1 .0) (a .1 .1 .1 .0)) r
 
   of-plan-of : Tells step.plan_of.ended step.plan_of.clauses
-      (λ κs a (r : Plan). first (planNumbers r) ≡ firstOf (stepRows (a .0) (a .1 .0) (a .1 .1 .0) (a .1 .1 .1 .0)))
+      (λ κs a (r : Plan). first (planNumbers r) ≡ firstNumber (stepRows (a .0) (a .1 .0) (a .1 .1 .0) (a .1 .1 .1 .0)))
   of-plan-of κs a g r ws =
       alone _ (λ (r : Plan). first (planNumbers r) ≡ _) (plan-number (a .0) (a .1 .0) (a .1 .1 .0) (a .1 .1 .1 .0)) r
 
-  of-decide : Tells step.decide.ended step.decide.clauses
+  of-decide : Tells step.decision_of.ended step.decision_of.clauses
       (λ κs a (r : Decision).
-      first (stepNumbers (r .stepped .answer)) ≡ firstOf
+      first (stepNumbers (r .stepped .answer)) ≡ firstNumber
       (stepRows (a .0) (a .1 .0) (length (a .1 .1 .1 .0 .now)) (length (a .1 .1 .1 .1 .0 .now))))
   unfolding decisionOf
   of-decide κs a g r ws =
@@ -146,7 +146,7 @@ module _ {M : Type 1} (𝓤 : URA M) (H : Heap 𝓤) (A : Atoms 𝓤) (mem : Mem
 
   of-step : Tells step.step.ended step.step.clauses
       (λ κs a (r : Stepped).
-      first (stepNumbers (r .answer)) ≡ firstOf (stepRows (a .0) (a .1 .0) (length (a .1 .1 .1 .0 .now)) (length (a .1 .1 .1 .1 .0 .now))))
+      first (stepNumbers (r .answer)) ≡ firstNumber (stepRows (a .0) (a .1 .0) (length (a .1 .1 .1 .0 .now)) (length (a .1 .1 .1 .1 .0 .now))))
   of-step κs a g r ws =
       lent-two _ (λ (r : Stepped). first (stepNumbers (r .answer)) ≡ _)
       (step-number (a .0) (a .1 .0) (a .1 .1 .0) (a .1 .1 .1 .0 .now) (a .1 .1 .1 .1 .0 .now)) r _ _
@@ -154,7 +154,7 @@ module _ {M : Type 1} (𝓤 : URA M) (H : Heap 𝓤) (A : Atoms 𝓤) (mem : Mem
   -- the arrays of a program's channel have a place for each level (`Shaped`), which the list of the logic does not know
   of-run : Tells step.run.ended step.run.clauses
       (λ κs a (r : Ran).
-      Shaped (a .1 .0) → verdictNumber (r .verdict) ≡ firstOf
+      Shaped (a .1 .0) → verdictNumber (r .verdict) ≡ firstNumber
       (runRows (a .0) (a .1 .1 .1 .1 .1 .0) (world (a .1 .0) (a .1 .1 .0) (a .1 .1 .1 .0 .now) (a .1 .1 .1 .1 .0 .now))))
   of-run κs a g r ws =
       lent-two _ (λ (r : Ran). Shaped (a .1 .0) → verdictNumber (r .verdict) ≡ _)
@@ -162,7 +162,7 @@ module _ {M : Type 1} (𝓤 : URA M) (H : Heap 𝓤) (A : Atoms 𝓤) (mem : Mem
 
   of-log-run : Tells step.log_run.ended step.log_run.clauses
       (λ κs a (r : Logged).
-      Shaped (a .1 .0) → verdictNumber (r .ran .verdict) ≡ firstOf
+      Shaped (a .1 .0) → verdictNumber (r .ran .verdict) ≡ firstNumber
       (logRows (a .0) (a .1 .1 .1 .1 .1 .1 .1 .0) (world (a .1 .0) (a .1 .1 .0) (a .1 .1 .1 .0 .now) (a .1 .1 .1 .1 .0 .now))
       (page (a .1 .1 .1 .1 .1 .0 .now) (a .1 .1 .1 .1 .1 .1 .0))))
   of-log-run κs a g r ws =
@@ -172,26 +172,26 @@ module _ {M : Type 1} (𝓤 : URA M) (H : Heap 𝓤) (A : Atoms 𝓤) (mem : Mem
 
   of-lent-step : Tells lent.step.ended lent.step.clauses
       (λ κs a (r : Stepped).
-      first (stepNumbers (r .answer)) ≡ firstOf (stepRows (a .0) (a .1 .0) (length (a .1 .1 .1 .0 .now)) (length (a .1 .1 .1 .1 .0 .now))))
+      first (stepNumbers (r .answer)) ≡ firstNumber (stepRows (a .0) (a .1 .0) (length (a .1 .1 .1 .0 .now)) (length (a .1 .1 .1 .1 .0 .now))))
   of-lent-step κs a g r ws =
       lent-three _ (λ (r : Stepped). first (stepNumbers (r .answer)) ≡ _)
       (step-number (a .0) (a .1 .0) (a .1 .1 .0 .now) (a .1 .1 .1 .0 .now) (a .1 .1 .1 .1 .0 .now)) r _ _ _
 
   of-lent-run : Tells lent.run.ended lent.run.clauses
       (λ κs a (r : Ran).
-      Shaped (a .1 .0) → verdictNumber (r .verdict) ≡ firstOf
+      Shaped (a .1 .0) → verdictNumber (r .verdict) ≡ firstNumber
       (runRows (a .0) (a .1 .1 .1 .1 .1 .0) (world (a .1 .0) (a .1 .1 .0 .now) (a .1 .1 .1 .0 .now) (a .1 .1 .1 .1 .0 .now))))
   of-lent-run κs a g r ws =
       lent-three _ (λ (r : Ran). Shaped (a .1 .0) → verdictNumber (r .verdict) ≡ _)
       (run-number (a .0) (a .1 .1 .1 .1 .1 .0) (world (a .1 .0) (a .1 .1 .0 .now) (a .1 .1 .1 .0 .now) (a .1 .1 .1 .1 .0 .now))) r _ _ _
 
-  -- 10 and 11 are in `readAt`, so this says no more than its equation; of a sheet 10 to 16 are in `sheet`, with their places
+  -- 10 and 11 are in `readNumber`, so this says no more than its equation; of a sheet 10 to 16 are in `sheet`, with their places
   of-read-number : Tells number.read_number.ended number.read_number.clauses
-      (λ κs a (r : NumberRead). readNumbers r ≡ readNumbers (readAt (a .0 .now) (a .1 .0)))
-  of-read-number κs a g r ws = alone _ (λ (r : NumberRead). readNumbers r ≡ readNumbers (readAt (a .0 .now) (a .1 .0))) refl r
+      (λ κs a (r : NumberRead). readNumbers r ≡ readNumbers (readNumber (a .0 .now) (a .1 .0)))
+  of-read-number κs a g r ws = alone _ (λ (r : NumberRead). readNumbers r ≡ readNumbers (readNumber (a .0 .now) (a .1 .0))) refl r
 
-  of-bad-rows : Tells frame.bad_rows.ended frame.bad_rows.clauses (λ κs a (r : Refusal). numberOf r ≡ badTold (a .0))
-  of-bad-rows κs a g r ws = alone _ (λ (r : Refusal). numberOf r ≡ _) (bad-told (a .0)) r
+  of-bad-rows : Tells frame.bad_rows.ended frame.bad_rows.clauses (λ κs a (r : Refusal). refusalNumber r ≡ badTold (a .0))
+  of-bad-rows κs a g r ws = alone _ (λ (r : Refusal). refusalNumber r ≡ _) (bad-told (a .0)) r
 
   of-number-at : Tells numbers.number_at.ended numbers.number_at.clauses
       (λ κs a (r : NumberRead). readNumbers r ≡ readNumbers (numberAt (a .1 .1 .0) (a .0 .now) (a .1 .0 .now) (a .1 .1 .1 .0)))
@@ -212,7 +212,7 @@ module _ {M : Type 1} (𝓤 : URA M) (H : Heap 𝓤) (A : Atoms 𝓤) (mem : Mem
 
   of-write-number : Tells number.write_number.ended number.write_number.clauses
       (λ κs a (r : NumberWritten). writtenNumbers r ≡ writtenTold (a .0 .now) (a .1 .0) (bytesOf (a .1 .1 .0)))
-  unfolding writtenAt
+  unfolding writeNumber
   of-write-number κs a g r ws =
       lent-one _ (λ (r : NumberWritten). writtenNumbers r ≡ _) (written-told (a .0 .now) (a .1 .0) (bytesOf (a .1 .1 .0))) r _
 
@@ -230,16 +230,16 @@ module _ {M : Type 1} (𝓤 : URA M) (H : Heap 𝓤) (A : Atoms 𝓤) (mem : Mem
 
   of-read-sheet : Tells sheet.read_sheet.ended sheet.read_sheet.clauses
       (λ κs a (r : SheetAnswer).
-      sheetNumbers r ≡ sheetTold (judged (readAt (a .0 .now)) (length (a .0 .now))) (length (numbersOf (a .0 .now))) (length (a .1 .0 .now)))
-  unfolding readAnswer
+      sheetNumbers r ≡ sheetTold (judged (readNumber (a .0 .now)) (length (a .0 .now))) (length (numbersOf (a .0 .now))) (length (a .1 .0 .now)))
+  unfolding readSheet
   of-read-sheet κs a g r ws =
       lent-one _ (λ (r : SheetAnswer). sheetNumbers r ≡ _)
-      (sheet-told (judged (readAt (a .0 .now)) (length (a .0 .now))) (length (numbersOf (a .0 .now))) (length (a .1 .0 .now))) r _
+      (sheet-told (judged (readNumber (a .0 .now)) (length (a .0 .now))) (length (numbersOf (a .0 .now))) (length (a .1 .0 .now))) r _
 
   of-write-sheet : Tells sheet.write_sheet.ended sheet.write_sheet.clauses
       (λ κs a (r : SheetAnswer).
       sheetNumbers r ≡ sheetTold (judged (listAt (a .0 .now)) (length (a .0 .now))) (length (allBytes (a .0 .now))) (length (a .1 .0 .now)))
-  unfolding writeAnswer
+  unfolding writeSheet
   of-write-sheet κs a g r ws =
       lent-one _ (λ (r : SheetAnswer). sheetNumbers r ≡ _)
       (sheet-told (judged (listAt (a .0 .now)) (length (a .0 .now))) (length (allBytes (a .0 .now))) (length (a .1 .0 .now))) r _

@@ -5,11 +5,11 @@ use mathlib.Core.Bool.{Bool, true, false, _&&_}
 use mathlib.Core.List.{List, [], _∷_}
 use lib.ListN.{length}
 use lib.Dec.{eqb}
-use Rattle.refusal.specs.Refusal.{numberOf, verdictNumber}
-use Rattle.cycle.specs.Cycle.{cycleCount, isLength, isWidth, isPort, narrower, cycles, cyclesUpTo}
+use Rattle.refusal.specs.Refusal.{refusalNumber, verdictNumber}
+use Rattle.cycle.specs.Cycle.{cycleCount, isLength, isWidth, isPort, narrowerOf, cycles, cyclesUpTo}
 use Rattle.number.specs.declared.NumberRead.{NumberRead}
 use Rattle.number.specs.declared.NumberRead.the-variants.{Number, Refused}
-use Rattle.number.specs.Number.{readAt, bytesOf}
+use Rattle.number.specs.Number.{readNumber, bytesOf}
 
 data Row : Type 0 where
   -- "Cycles for (a, n, W, P)", and their number
@@ -49,15 +49,15 @@ saysNumber v past (Refused why place) = false
 -- this refusal, at the start of the bytes
 saysRefused : ℕ → NumberRead → Bool
 saysRefused n (Number w next) = false
-saysRefused n (Refused why place) = eqb (numberOf why) n && eqb place 0
+saysRefused n (Refused why place) = eqb (refusalNumber why) n && eqb place 0
 
 -- the count is given and not refused, and the rule makes as many cycles one after the other
 holds : Row → Bool
 holds (counts a n w p count) =
     eqb (cycleCount a n w p .cycles) count
-    && (eqb (verdictNumber (cycleCount a n w p .verdict)) 0 && eqb (length (cycles (narrower w p) a n)) count)
-holds (is v bytes) = same (bytesOf v) bytes && saysNumber v (length bytes) (readAt bytes 0)
-holds (gives bytes n) = saysRefused n (readAt bytes 0)
+    && (eqb (verdictNumber (cycleCount a n w p .verdict)) 0 && eqb (length (cycles (narrowerOf w p) a n)) count)
+holds (is v bytes) = same (bytesOf v) bytes && saysNumber v (length bytes) (readNumber bytes 0)
+holds (gives bytes n) = saysRefused n (readNumber bytes 0)
 
 right : List Row → Bool
 right [] = true
@@ -65,5 +65,5 @@ right (row ∷ more) = holds row && right more
 
 -- every starred example holds of the definitions
 starred : right rows ≡ true
-unfolding right rows holds same saysNumber saysRefused cycleCount isLength isWidth isPort cyclesUpTo readAt bytesOf
+unfolding right rows holds same saysNumber saysRefused cycleCount isLength isWidth isPort cyclesUpTo readNumber bytesOf
 starred = refl

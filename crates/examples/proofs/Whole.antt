@@ -12,7 +12,7 @@ use Rattle.cycle.specs.Cycle.{isLength, isWidth, isPort, transferTime}
 use Rattle.frame.specs.Frame.{
   isRowCount,
   isMasterLength,
-  levelInRange,
+  isLevelInRange,
   isRising,
   isLastFifteen,
   levelRowFits,
@@ -20,7 +20,7 @@ use Rattle.frame.specs.Frame.{
   isTime,
   limitOf,
   isPlaced,
-  slaveInRange,
+  isSlaveInRange,
   areApart,
   isApart,
   lengthsBefore,
@@ -28,12 +28,12 @@ use Rattle.frame.specs.Frame.{
   slavesFit,
   isFramed,
 }
-use Rattle.frame.specs.Allowance.{allowance, isWithin}
+use Rattle.frame.specs.Allowance.{allowanceOf, isWithin}
 use Rattle.frame.specs.Rows.{isPresent, levelOf}
-use Rattle.frame.specs.Find.{levelIndex, levelRow, holds, slaveIndex, slaveRow, slaveStoreLength, placeOf}
+use Rattle.frame.specs.Find.{levelIndex, levelRow, rowHolds, slaveIndex, slaveRow, slaveStoreLength, storePlace}
 use Rattle.channel.specs.declared.Phase.the-variants.{Arbitrating, Granted}
-use Rattle.channel.specs.Channel.{fresh, hasRequest, withRequest, requestOf}
-use Rattle.channel.specs.Line.{waits, drives, lineActive, asks, othersAsk, cleared, timed, winnerFrom}
+use Rattle.channel.specs.Channel.{freshChannel, hasRequest, withRequest, requestOf}
+use Rattle.channel.specs.Line.{waits, drives, lineActive, asks, othersAsk, clearMarks, setAsked, winnerFrom}
 use Rattle.channel.specs.Slave.{slaveOf, startOf}
 use Rattle.sound.specs.Request.{isInRange, requestVerdict, transferOf}
 use Rattle.sound.specs.Sound.{
@@ -51,7 +51,7 @@ use Rattle.sound.specs.Sound.{
 }
 use Rattle.post.specs.Post.{postVerdict, posted, postOf}
 use Rattle.act.specs.Cycle.{
-  pathOf,
+  routeOf,
   restAfter,
   nextTime,
   cycleOf,
@@ -68,9 +68,9 @@ use Rattle.act.specs.Turn.{arbitrationTime, granted, grantTurn, leaveTurn}
 use Rattle.tally.specs.Tally.{addGrant, addCycle, addRelease}
 use Rattle.step.specs.Plan.{ownerPlan, actPlan, readyVerdict, planOf}
 use Rattle.step.specs.Step.{stepOf, carryOf, movedSlave, movedMaster, slaveAfter, masterAfter}
-use Rattle.step.specs.Run.{world, after, runFrom, runOf}
+use Rattle.step.specs.Run.{world, worldAfter, runFrom, runOf}
 use Rattle.act.specs.Entry.{cycleFields}
-use Rattle.number.specs.Number.{readAt, bytesOf}
+use Rattle.number.specs.Number.{readNumber, bytesOf}
 use Rattle.numbers.specs.declared.Part.the-variants.{Good}
 use Rattle.numbers.specs.Numbers.{listAt, numberBetween, numbersOf, allBytes}
 use Rattle.sheet.specs.Sheet.{countedRows, head, headOf, stepCount, event, countedEvents, body, sheet}
@@ -85,15 +85,15 @@ use Rattle.sheetlist.specs.Held.{
 }
 use Rattle.sheetlist.specs.declared.Event.the-variants.{Steps, Post}
 use Rattle.tally.specs.Tally.{noTally}
-use Rattle.demands.specs.History.{after as afterActs}
+use Rattle.demands.specs.History.{momentAfter as afterActs}
 use Rattle.demands.specs.Log.{logOf}
 use Rattle.demands.specs.Calls.{actsOver}
-use Rattle.demands.specs.Bytes.{asked}
-use Rattle.demands.specs.Stores.{slaves, masters, start, lastInto, brought}
+use Rattle.demands.specs.Bytes.{askedBytes}
+use Rattle.demands.specs.Stores.{slaveSide, masterSide, start, lastInto, brought}
 use Rattle.demands.specs.Waiting.{nobody, since, firstOver}
-use Rattle.sheethost.specs.Host.{bytesFrom}
+use Rattle.sheethost.specs.Host.{masterFrom}
 use Rattle.examples.specs.Printed.{begun, eventsOf, eventsPrint, sheetPrint}
-use Rattle.examples.specs.Sheet.{input, list, setup, orderBy, first, second, events, output}
+use Rattle.examples.specs.Sheet.{input, list, setup, orderBy, first, second, sheetEvents, output}
 use Rattle.examples.specs.Instance.{slave, master, begin, before, until, acts, asRuns, bytesOf3, bytesOf7, entries}
 use Rattle.examples.specs.Bursts.{askedAtGrant, askedLater, figures}
 
@@ -109,11 +109,11 @@ bytes (text ∷ lines) = codes text ++ bytes lines
 -- the sheet is good to its end; it has these numbers, and they are written as these bytes; they hold this set-up and these events, the last of which
 -- ends where the list ends; and this is what sheetrun prints
 record Whole : Type 0 where
-  good : sheet (readAt input) (length input) ≡ Good 40
+  good : sheet (readNumber input) (length input) ≡ Good 40
   read : numbersOf input ≡ list
   written : allBytes list ≡ input
   held : setupOf list 4096 ≡ setup
-  happens : eventsOf list ≡ events
+  happens : eventsOf list ≡ sheetEvents
   ends : eventFrom list 4 ≡ length list
   log : sheetPrint input ≡ bytes output
 
@@ -128,7 +128,7 @@ record Lines : Type 0 where
   lowest : eventsPrint setup (Post second ∷ Post first ∷ Steps 1 ∷ []) (begun setup)
       ≡ bytes ("P 0 7 0" ∷ "P 0 3 0" ∷ "G 100 3" ∷ "E 100 0" ∷ [])
   -- the clock would pass 4,000,000,000: the event ends there, the next goes on
-  stops : eventsPrint setup (Post first ∷ Steps 3 ∷ Post second ∷ []) (world (clocked fresh 3999999800) noTally (replicate 16 0) (replicate 4096 0))
+  stops : eventsPrint setup (Post first ∷ Steps 3 ∷ Post second ∷ []) (world (clocked freshChannel 3999999800) noTally (replicate 16 0) (replicate 4096 0))
       ≡ bytes ("P 3999999800 3 0" ∷ "G 3999999900 3" ∷ "X 3999999900 6" ∷ "P 3999999900 7 0" ∷ "E 3999999900 0" ∷ [])
   -- level 7 asks inside a transfer of level 3, which does not linger: nothing is released before its end
   not-torn : eventsPrint setup (Post first ∷ Steps 1 ∷ Post second ∷ Steps 2 ∷ []) (begun setup)
@@ -155,41 +155,41 @@ record Bursts : Type 0 where
 -- the sheet as a history: the hypotheses of demand 3's theorems, the log and the stores
 pub record History : Type 0 where
   -- sheetrun begins where it begins
-  pub begins : begun setup ≡ world fresh noTally slave master
+  pub begins : begun setup ≡ world freshChannel noTally slave master
   pub framed : isFramed setup ≡ true
   pub slave-length : length slave ≡ slaveStoreLength (setup .slaves)
   pub master-length : length master ≡ setup .master
   pub log : logOf setup begin acts ≡ entries
   pub slave-then : afterActs setup begin acts .slave ≡ 0 ∷ 0 ∷ 1 ∷ 2 ∷ 3 ∷ 4 ∷ 5 ∷ 6 ∷ replicate 8 0
-  pub master-then : afterActs setup begin acts .master ≡ bytesFrom 0 16 ++ (0 ∷ 0 ∷ bytesFrom 18 4078)
+  pub master-then : afterActs setup begin acts .master ≡ masterFrom 0 16 ++ (0 ∷ 0 ∷ masterFrom 18 4078)
   pub owner : afterActs setup begin before .channel .phase ≡ Granted 3
   pub request : hasRequest (afterActs setup begin before .channel .left) 3 ≡ true
   pub owner-until : afterActs setup begin until .channel .phase ≡ Granted 3
   pub first-moment : firstOver setup begin nobody until ≡ since 3 300
-  pub asked-3 : asked setup begin 3 acts ≡ bytesOf3
-  pub asked-7 : asked setup begin 7 acts ≡ bytesOf7
+  pub asked-3 : askedBytes setup begin 3 acts ≡ bytesOf3
+  pub asked-7 : askedBytes setup begin 7 acts ≡ bytesOf7
   pub open-3 : requestOf (afterActs setup begin acts .channel) 3 .left ≡ 0
   pub open-7 : requestOf (afterActs setup begin acts .channel) 7 .left ≡ 0
   -- the last cycle into byte 3 of the slave store brought a 2; no cycle went into byte 0, or into byte 3 of the master store
-  pub into-3 : brought slaves 3 begin (lastInto setup slaves 3 begin acts) ≡ 2
-  pub into-0 : lastInto setup slaves 0 begin acts ≡ start
-  pub master-3 : lastInto setup masters 3 begin acts ≡ start
+  pub into-3 : brought slaveSide 3 begin (lastInto setup slaveSide 3 begin acts) ≡ 2
+  pub into-0 : lastInto setup slaveSide 0 begin acts ≡ start
+  pub master-3 : lastInto setup masterSide 3 begin acts ≡ start
   pub as-runs : actsOver setup begin asRuns ≡ acts
 
 computed : Whole × (Lines × (Bursts × History))
 unfolding codes bytes
-    sheetPrint sheet body head headOf countedRows countedEvents event stepCount numberBetween numbersOf readAt bytesOf listAt
+    sheetPrint sheet body head headOf countedRows countedEvents event stepCount numberBetween numbersOf readNumber bytesOf listAt
     eventsFrom eventCount setupOf eventAt nextEvent eventFrom eventOf
     allBelow anyBelow firstFrom isLength isWidth isPort transferTime
-    isRowCount isMasterLength levelInRange isRising isLastFifteen levelRowFits levelsFit isTime limitOf isPlaced slaveInRange areApart isApart
-    lengthsBefore slaveRowFits slavesFit isFramed levelIndex levelRow holds slaveIndex slaveRow slaveStoreLength
-    withRequest waits drives lineActive asks othersAsk cleared timed winnerFrom
-    isPresent levelOf slaveOf startOf isInRange requestVerdict transferOf allowance isWithin isGrantSound isOwnerSound isBlank isRequestSound
+    isRowCount isMasterLength isLevelInRange isRising isLastFifteen levelRowFits levelsFit isTime limitOf isPlaced isSlaveInRange areApart isApart
+    lengthsBefore slaveRowFits slavesFit isFramed levelIndex levelRow rowHolds slaveIndex slaveRow slaveStoreLength
+    withRequest waits drives lineActive asks othersAsk clearMarks setAsked winnerFrom
+    isPresent levelOf slaveOf startOf isInRange requestVerdict transferOf allowanceOf isWithin isGrantSound isOwnerSound isBlank isRequestSound
     areRequestsSound isMarkSound areMarksSound isInTime isAskedAt isAskedSound isSound
     postVerdict posted postOf
-    pathOf restAfter nextTime cycleOf isLate isLeaving endingOf clocked freed movedOn cycleEntry cycleTurn arbitrationTime granted grantTurn leaveTurn
-    addGrant addCycle addRelease ownerPlan actPlan readyVerdict planOf stepOf carryOf movedSlave movedMaster slaveAfter masterAfter after runFrom runOf cycleFields
-    placeOf
+    routeOf restAfter nextTime cycleOf isLate isLeaving endingOf clocked freed movedOn cycleEntry cycleTurn arbitrationTime granted grantTurn leaveTurn
+    addGrant addCycle addRelease ownerPlan actPlan readyVerdict planOf stepOf carryOf movedSlave movedMaster slaveAfter masterAfter worldAfter runFrom runOf
+    cycleFields storePlace
 computed = (
   record {
     good = refl;

@@ -8,16 +8,16 @@ use Rattle.frame.specs.Frame.{noLevel, noSlave}
 use Rattle.tally.specs.declared.Tally.{Tally}
 use Rattle.sheetlist.specs.declared.Event.{Event}
 use Rattle.sheetlist.specs.declared.Event.the-variants.{Steps, Post}
-use Rattle.examples.specs.Printed.{behind, begun}
-use Rattle.examples.specs.Sheet.{levelRow, slaveRow, orderBy}
+use Rattle.examples.specs.Printed.{afterEvents, begun}
+use Rattle.examples.specs.Sheet.{levelRowBy, slaveRowBy, orderBy}
 use Rattle.step.specs.Run.{World}
 
 -- level 3 bursts and lingers; the slave has this port and this cycle time
 abbrev pub burstSetup : ℕ → ℕ → Setup
 burstSetup port time =
     record {
-      levels = record { rows = levelRow 3 4 5 ∷ levelRow 15 4 0 ∷ replicate (rowsMost - 2) noLevel; count = 2 };
-      slaves = record { rows = slaveRow 1 0 4096 port time ∷ replicate (rowsMost - 1) noSlave; count = 1 };
+      levels = record { rows = levelRowBy 3 4 5 ∷ levelRowBy 15 4 0 ∷ replicate (rowsMost - 2) noLevel; count = 2 };
+      slaves = record { rows = slaveRowBy 1 0 4096 port time ∷ replicate (rowsMost - 1) noSlave; count = 1 };
       master = 4096;
     }
 
@@ -26,18 +26,18 @@ abbrev pub burst : Event
 burst = Post (orderBy 3 1 1 0 4096 0)
 
 -- level 15 asks
-abbrev pub asks : Event
-asks = Post (orderBy 15 1 1 0 4 0)
+abbrev pub otherPost : Event
+otherPost = Post (orderBy 15 1 1 0 4 0)
 
--- both posts, the grant, and then so many cycles: the world then
+-- both posts, the grant, and then some cycles: the world then
 abbrev pub askedAtGrant : ℕ → ℕ → ℕ → World
-askedAtGrant port time cycles = behind (burstSetup port time) (burst ∷ asks ∷ Steps 1 ∷ Steps cycles ∷ []) (begun (burstSetup port time))
+askedAtGrant port time cycles = afterEvents (burstSetup port time) (burst ∷ otherPost ∷ Steps 1 ∷ Steps cycles ∷ []) (begun (burstSetup port time))
 
--- the grant, so many cycles, and only then the other's post; and so many cycles more
+-- the grant, the first cycles, and only then the other's post; and some cycles more
 abbrev pub askedLater : ℕ → ℕ → ℕ → ℕ → World
 askedLater port time first more =
-    behind (burstSetup port time) (burst ∷ Steps 1 ∷ Steps first ∷ asks ∷ Steps more ∷ []) (begun (burstSetup port time))
+    afterEvents (burstSetup port time) (burst ∷ Steps 1 ∷ Steps first ∷ otherPost ∷ Steps more ∷ []) (begun (burstSetup port time))
 
--- one grant, so many cycles and bytes, and this longest hold
+-- one grant, these cycles and bytes, and this longest hold
 abbrev pub figures : ℕ → ℕ → ℕ → Tally
 figures cycles bytes hold = record { grants = 1; cycles = cycles; bytes = bytes; hold = hold }

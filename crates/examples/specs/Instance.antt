@@ -2,7 +2,7 @@
 use Prim.Native.Nat.{ℕ}
 use mathlib.Core.List.{List, [], _∷_, _++_}
 use lib.ListN.{replicate}
-use Rattle.channel.specs.Channel.{fresh}
+use Rattle.channel.specs.Channel.{freshChannel}
 use Rattle.act.specs.declared.Hold.the-variants.{Unasked}
 use Rattle.act.specs.declared.Ending.{Ending}
 use Rattle.act.specs.declared.Ending.the-variants.{Kept, Released, Marked}
@@ -21,7 +21,7 @@ abbrev pub master : List ℕ
 master = masterStore 4096
 
 abbrev pub begin : Moment
-begin = record { channel = fresh; slave = slave; master = master }
+begin = record { channel = freshChannel; slave = slave; master = master }
 
 -- the sheet's events: a post, two steps, a post that comes while level 3 owns the channel inside a transfer, and seven steps
 abbrev pub before : List Act
@@ -52,19 +52,19 @@ bytesOf3 = bytesFrom 7 (record { direction = 1; space = 1; address = 4097; offse
 abbrev pub bytesOf7 : List Byte
 bytesOf7 = bytesFrom 2 (record { direction = 0; space = 1; address = 4096; offset = 16 })
 
-abbrev pub cycle : ℕ → ℕ → ℕ → ℕ → ℕ → ℕ → ℕ → Ending → Entry
-cycle clock l a n d m s ending =
-    Cycle (record { clock = clock; level = l; address = a; bytes = n; direction = d; master = m; slave = s; ending = ending })
+abbrev pub cycleBy : ℕ → ℕ → ℕ → ℕ → ℕ → ℕ → ℕ → Ending → Entry
+cycleBy clock l a n d m s ending =
+    Cycle (record { clock = clock; level = l; address = a; bytes = n; direction = d; «master_lane» = m; «slave_lane» = s; ending = ending })
 
 abbrev pub entries : List Entry
 entries =
     Grant 100 3
-    ∷ cycle 300 3 4097 1 1 1 1 Kept
-    ∷ cycle 500 3 4098 2 1 2 0 (Marked 200)
+    ∷ cycleBy 300 3 4097 1 1 1 1 Kept
+    ∷ cycleBy 500 3 4098 2 1 2 0 (Marked 200)
     ∷ Grant 600 7
-    ∷ cycle 800 7 4096 2 0 0 0 (Marked 200)
+    ∷ cycleBy 800 7 4096 2 0 0 0 (Marked 200)
     ∷ Grant 900 3
-    ∷ cycle 1100 3 4100 2 1 0 0 Kept
-    ∷ cycle 1300 3 4102 2 1 2 0 (Released Unasked)
+    ∷ cycleBy 1100 3 4100 2 1 0 0 Kept
+    ∷ cycleBy 1300 3 4102 2 1 2 0 (Released Unasked)
     ∷ Grant 1400 15
     ∷ []

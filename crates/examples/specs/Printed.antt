@@ -2,17 +2,17 @@
 use Prim.Native.Nat.{ℕ, zero, suc}
 use mathlib.Core.List.{List, [], _∷_, _++_}
 use lib.ListN.{length}
-use Rattle.refusal.specs.Refusal.{numberOf, verdictNumber}
-use Rattle.number.specs.Number.{readAt}
+use Rattle.refusal.specs.Refusal.{refusalNumber, verdictNumber}
+use Rattle.number.specs.Number.{readNumber}
 use Rattle.frame.specs.declared.Setup.{Setup}
 use Rattle.frame.specs.Find.{slaveStoreLength}
 use Rattle.channel.specs.declared.Judged.{Judged}
-use Rattle.channel.specs.Channel.{fresh}
+use Rattle.channel.specs.Channel.{freshChannel}
 use Rattle.post.specs.Post.{postOf}
 use Rattle.tally.specs.Tally.{noTally}
 use Rattle.step.specs.declared.StepAnswer.{StepAnswer}
 use Rattle.step.specs.declared.StepAnswer.the-variants.{Done, Refused}
-use Rattle.step.specs.Run.{World, world, stepIn, after}
+use Rattle.step.specs.Run.{World, world, stepIn, worldAfter}
 use Rattle.logline.specs.Line.{entryText, postText, stopText, endText, faultText}
 use Rattle.numbers.specs.declared.Part.{Part}
 use Rattle.numbers.specs.declared.Part.the-variants.{Good, Fault}
@@ -23,7 +23,7 @@ use Rattle.sheetlist.specs.declared.Event.the-variants.{Steps, Post}
 use Rattle.sheetlist.specs.Held.{setupOf, eventCount, eventOf}
 use Rattle.sheethost.specs.Host.{masterStore, slaveStore}
 
--- what is printed, and the channel, the tally and the stores behind it
+-- what is printed, and the channel, the tally and the stores after it
 pub record Printed : Type 0 where
   pub text : List ℕ
   pub world : World
@@ -38,9 +38,9 @@ stepThen (Refused why) w rest = printed (stopText (w .channel .clock)) w
 
 abbrev pub stepsPrint : Setup → ℕ → World → Printed
 stepsPrint setup zero w = printed [] w
-stepsPrint setup (suc left) w = stepThen (stepIn setup w .answer) w (stepsPrint setup left (after setup w))
+stepsPrint setup (suc left) w = stepThen (stepIn setup w .answer) w (stepsPrint setup left (worldAfter setup w))
 
--- "P: level, refusal or 0.", behind "the clock afterwards"
+-- "P: level, refusal or 0.", after "the clock afterwards"
 abbrev pub judgedPrint : ℕ → Judged → World → Printed
 judgedPrint level j w =
     printed (postText (j .channel .clock) level (verdictNumber (j .verdict))) (world (j .channel) (w .tally) (w .slave) (w .master))
@@ -54,22 +54,22 @@ abbrev pub eventsPrint : Setup → List Event → World → List ℕ
 eventsPrint setup [] w = endText (w .channel .clock) (w .tally .bytes)
 eventsPrint setup (e ∷ events) w = eventPrint setup e w .text ++ eventsPrint setup events (eventPrint setup e w .world)
 
--- the channel, the tally and the stores behind events
-abbrev pub behind : Setup → List Event → World → World
-behind setup [] w = w
-behind setup (e ∷ events) w = behind setup events (eventPrint setup e w .world)
+-- the channel, the tally and the stores after events
+abbrev pub afterEvents : Setup → List Event → World → World
+afterEvents setup [] w = w
+afterEvents setup (e ∷ events) w = afterEvents setup events (eventPrint setup e w .world)
 
--- the events of a list from the i-th on, so many of them
-abbrev pub eventsFrom : List ℕ → ℕ → ℕ → List Event
-eventsFrom list i zero = []
-eventsFrom list i (suc left) = eventOf list i ∷ eventsFrom list (suc i) left
+-- `left` events of a list, from the i-th on
+abbrev pub listedEvents : List ℕ → ℕ → ℕ → List Event
+listedEvents list i zero = []
+listedEvents list i (suc left) = eventOf list i ∷ listedEvents list (suc i) left
 
 abbrev pub eventsOf : List ℕ → List Event
-eventsOf list = eventsFrom list 0 (eventCount list)
+eventsOf list = listedEvents list 0 (eventCount list)
 
 -- the fresh channel, a tally of nothing, "slave store zero", and "Master store: 4,096 bytes"
 abbrev pub begun : Setup → World
-begun setup = world fresh noTally (slaveStore (slaveStoreLength (setup .slaves))) (masterStore 4096)
+begun setup = world freshChannel noTally (slaveStore (slaveStoreLength (setup .slaves))) (masterStore 4096)
 
 -- the numbers of a good sheet
 abbrev pub listPrint : List ℕ → List ℕ
@@ -78,7 +78,7 @@ listPrint list = eventsPrint (setupOf list 4096) (eventsOf list) (begun (setupOf
 -- "A bad sheet prints only S, number, place."
 abbrev pub verdictPrint : Part → List ℕ → List ℕ
 verdictPrint (Good end) list = listPrint list
-verdictPrint (Fault why place) list = faultText (numberOf why) place
+verdictPrint (Fault why place) list = faultText (refusalNumber why) place
 
 unfoldable pub sheetPrint : List ℕ → List ℕ
-sheetPrint bytes = verdictPrint (sheet (readAt bytes) (length bytes)) (numbersOf bytes)
+sheetPrint bytes = verdictPrint (sheet (readNumber bytes) (length bytes)) (numbersOf bytes)

@@ -26,11 +26,11 @@ list =
     1 ∷ 3 ∷ 3 ∷ 4 ∷ 3 ∷ 7 ∷ 2 ∷ 2 ∷ 15 ∷ 4 ∷ 0 ∷ 1 ∷ 1 ∷ 4096 ∷ 16 ∷ 2 ∷ 200 ∷ 4
     ∷ 1 ∷ 3 ∷ 1 ∷ 1 ∷ 4097 ∷ 7 ∷ 0 ∷ 0 ∷ 2 ∷ 1 ∷ 7 ∷ 0 ∷ 1 ∷ 4096 ∷ 2 ∷ 16 ∷ 0 ∷ 7 ∷ []
 
-abbrev pub levelRow : ℕ → ℕ → ℕ → LevelRow
-levelRow l w o = record { level = l; width = w; options = o }
+abbrev pub levelRowBy : ℕ → ℕ → ℕ → LevelRow
+levelRowBy l w o = record { level = l; width = w; options = o }
 
-abbrev pub slaveRow : ℕ → ℕ → ℕ → ℕ → ℕ → SlaveRow
-slaveRow s b l p t = record { space = s; base = b; length = l; port = p; time = t }
+abbrev pub slaveRowBy : ℕ → ℕ → ℕ → ℕ → ℕ → SlaveRow
+slaveRowBy s b l p t = record { space = s; base = b; length = l; port = p; time = t }
 
 -- its set-up: levels 3 (burst, fair), 7 (fair) and 15, and a slave of 16 bytes with a port of 2
 abbrev pub setup : Setup
@@ -38,10 +38,10 @@ setup =
     record {
       levels =
           record {
-            rows = levelRow 3 4 3 ∷ levelRow 7 2 2 ∷ levelRow 15 4 0 ∷ replicate (rowsMost - 3) noLevel;
+            rows = levelRowBy 3 4 3 ∷ levelRowBy 7 2 2 ∷ levelRowBy 15 4 0 ∷ replicate (rowsMost - 3) noLevel;
             count = 3;
           };
-      slaves = record { rows = slaveRow 1 4096 16 2 200 ∷ replicate (rowsMost - 1) noSlave; count = 1 };
+      slaves = record { rows = slaveRowBy 1 4096 16 2 200 ∷ replicate (rowsMost - 1) noSlave; count = 1 };
       master = 4096;
     }
 
@@ -55,8 +55,8 @@ abbrev pub second : Order
 second = orderBy 7 0 1 4096 2 16
 
 -- its events
-abbrev pub events : List Event
-events = Post first ∷ Steps 2 ∷ Post second ∷ Steps 7 ∷ []
+abbrev pub sheetEvents : List Event
+sheetEvents = Post first ∷ Steps 2 ∷ Post second ∷ Steps 7 ∷ []
 
 -- "Output"
 abbrev pub output : List String

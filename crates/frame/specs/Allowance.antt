@@ -5,8 +5,8 @@ use lib.Dec.{leb}
 use Rattle.frame.specs.declared.Setup.{Setup}
 
 -- "The number is 7,800 ns."
-unfoldable pub allowance : Setup → ℕ
-allowance setup = 7800
+unfoldable pub allowanceOf : Setup → ℕ
+allowanceOf setup = 7800
 
 -- what takes so long from the clock on ends within the allowance after t
 unfoldable pub isWithin : ℕ → ℕ → ℕ → ℕ → Bool

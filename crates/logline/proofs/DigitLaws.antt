@@ -42,7 +42,7 @@ size-above (suc k) left n h =
     ∙ ap (λ (m : ℕ). suc (k + length (digits left m))) part
     ∙ sym (suc-add k (length (digits left (n / 10 ^ suc k))))
 
--- a number from 10 ^ k up to the next power has k digits behind the first
+-- a number from 10 ^ k up to the next power has k digits after the first
 pub size-within : (k left n : ℕ) → 10 ^ k ≤ n → n / 10 ^ k < 10 → length (digits (k + left) n) ≡ k + 1
 size-within k left n from below = size-above k left n from ∙ ap (λ (d : List ℕ). k + length d) (digits-last left (n / 10 ^ k) below)
 
@@ -71,7 +71,7 @@ length-lowest (suc k) n =
     ∙ add-one (length (lowest k (n / 10)))
     ∙ ap suc (length-lowest k (n / 10))
 
--- all the digits of a number are so many of its lowest
+-- all the digits of a number are its lowest, as many as it has
 pub all-lowest : (left n : ℕ) → digits left n ≡ lowest (length (digits left n)) n
 all-lowest zero n = refl
 all-lowest (suc left) n =

@@ -10,10 +10,10 @@ use native.Mathlib.Omega.{arith}
 use borrow.Author.Tests.{leb-true, not-false}
 use lib.ListN.{length, set, getD}
 use lib.Seq.{sets, set-comm}
-use Rattle.logline.specs.Text.{isRoom, field, fieldsFrom}
+use Rattle.logline.specs.Text.{hasRoom, field, fieldsFrom}
 
 -- there is room for the longest line, as `has_room` said
-pub room-is : (size at : ℕ) {r : Bool} → r ≡ isRoom size at → not r ≡ false → at + 96 ≤ size
+pub room-is : (size at : ℕ) {r : Bool} → r ≡ hasRoom size at → not r ≡ false → at + 96 ≤ size
 room-is size at {r} e f = leb-true (at + 96) size (sym e ∙ not-false r f)
 
 -- a text of two parts is written one part after the other
@@ -21,7 +21,7 @@ pub sets-append : (a b l : List ℕ) (i : ℕ) → sets l i (a ++ b) ≡ sets (s
 sets-append [] b l i = rw add-zero
 sets-append (x ∷ a) b l i = sets-append a b (set l i x) (suc i) ∙ ap (λ (k : ℕ). sets (sets (set l i x) (suc i) a) k b) (omega arith)
 
--- a byte behind a text may be written before it
+-- a byte that follows a text may be written before it
 pub sets-before : (a l : List ℕ) (i j x : ℕ) → i + length a ≤ j → sets (set l j x) i a ≡ set (sets l i a) j x
 sets-before [] l i j x h = refl
 sets-before (y ∷ a) l i j x h =

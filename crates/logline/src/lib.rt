@@ -6,7 +6,7 @@ ghost use mathlib.Core.Path.{_≡_};
 ghost use Prim.Native.Nat.{_+_, _≤_};
 ghost use lib.ListN.{length};
 ghost use lib.Seq.{sets};
-ghost use Rattle.logline.specs.Text.{digits, field, lineOf, isRoom, past, written};
+ghost use Rattle.logline.specs.Text.{digits, field, lineTextOf, hasRoom, placeAfter, outAfter};
 ghost use Rattle.act.specs.Entry.{endingNumber};
 ghost use Rattle.logline.specs.Line.{cycleText, entryText, postText, stopText, endText, faultText};
 
@@ -76,7 +76,7 @@ const LONGEST: usize = 96;
 
 // A buffer of that size has room for the longest line from `at` on.
 pub fn has_room(size: usize, at: usize) -> bool
-    ensures { λ r. ⌜ r ≡ isRoom size at ⌝ }
+    ensures { λ r. ⌜ r ≡ hasRoom size at ⌝ }
 {
     if size < LONGEST {
         return false;
@@ -87,8 +87,8 @@ pub fn has_room(size: usize, at: usize) -> bool
 // A letter, the first `count` of the numbers, and the end of the line, where there is room for the longest line.
 fn put_line(out: &mut [u8], at: usize, letter: u8, numbers: [u32; 8], count: usize) -> usize
     requires { ⌜ count ≤ 8 ⌝ }
-    ensures { λ r. ⌜ r ≡ past (now (out .entry)) at (lineOf letter numbers count) ⌝ }
-    ensures { λ _. ⌜ now (out .exit) ≡ written (now (out .entry)) at (lineOf letter numbers count) ⌝ }
+    ensures { λ r. ⌜ r ≡ placeAfter (now (out .entry)) at (lineTextOf letter numbers count) ⌝ }
+    ensures { λ _. ⌜ now (out .exit) ≡ outAfter (now (out .entry)) at (lineTextOf letter numbers count) ⌝ }
 {
     if !has_room(out.len(), at) {
         return at;
@@ -116,8 +116,8 @@ fn ending_number(ending: Ending) -> u32
 }
 
 fn put_cycle(out: &mut [u8], at: usize, entry: CycleEntry) -> usize
-    ensures { λ r. ⌜ r ≡ past (now (out .entry)) at (cycleText entry) ⌝ }
-    ensures { λ _. ⌜ now (out .exit) ≡ written (now (out .entry)) at (cycleText entry) ⌝ }
+    ensures { λ r. ⌜ r ≡ placeAfter (now (out .entry)) at (cycleText entry) ⌝ }
+    ensures { λ _. ⌜ now (out .exit) ≡ outAfter (now (out .entry)) at (cycleText entry) ⌝ }
 {
     let ending = entry.ending;
     let kept = ending_number(ending);
@@ -127,8 +127,8 @@ fn put_cycle(out: &mut [u8], at: usize, entry: CycleEntry) -> usize
         entry.address,
         entry.bytes,
         entry.direction,
-        entry.master,
-        entry.slave,
+        entry.master_lane,
+        entry.slave_lane,
         kept,
     ];
     put_line(out, at, b'C', numbers, 8)
@@ -136,8 +136,8 @@ fn put_cycle(out: &mut [u8], at: usize, entry: CycleEntry) -> usize
 
 // The line of a step's entry: G, C, R or I.
 pub fn put_entry(out: &mut [u8], at: usize, entry: Entry) -> usize
-    ensures { λ r. ⌜ r ≡ past (now (out .entry)) at (entryText entry) ⌝ }
-    ensures { λ _. ⌜ now (out .exit) ≡ written (now (out .entry)) at (entryText entry) ⌝ }
+    ensures { λ r. ⌜ r ≡ placeAfter (now (out .entry)) at (entryText entry) ⌝ }
+    ensures { λ _. ⌜ now (out .exit) ≡ outAfter (now (out .entry)) at (entryText entry) ⌝ }
 {
     match entry {
         Entry::Idle(clock) => put_line(out, at, b'I', [clock, 0, 0, 0, 0, 0, 0, 0], 1),
@@ -161,32 +161,32 @@ pub fn put_entry(out: &mut [u8], at: usize, entry: Entry) -> usize
 
 // The line of a post: P, clock, level, refusal or 0.
 pub fn put_post(out: &mut [u8], at: usize, clock: u32, level: u32, number: u32) -> usize
-    ensures { λ r. ⌜ r ≡ past (now (out .entry)) at (postText clock level number) ⌝ }
-    ensures { λ _. ⌜ now (out .exit) ≡ written (now (out .entry)) at (postText clock level number) ⌝ }
+    ensures { λ r. ⌜ r ≡ placeAfter (now (out .entry)) at (postText clock level number) ⌝ }
+    ensures { λ _. ⌜ now (out .exit) ≡ outAfter (now (out .entry)) at (postText clock level number) ⌝ }
 {
     put_line(out, at, b'P', [clock, level, number, 0, 0, 0, 0, 0], 3)
 }
 
 // The line of an event that ends at refusal 6.
 pub fn put_stop(out: &mut [u8], at: usize, clock: u32) -> usize
-    ensures { λ r. ⌜ r ≡ past (now (out .entry)) at (stopText clock) ⌝ }
-    ensures { λ _. ⌜ now (out .exit) ≡ written (now (out .entry)) at (stopText clock) ⌝ }
+    ensures { λ r. ⌜ r ≡ placeAfter (now (out .entry)) at (stopText clock) ⌝ }
+    ensures { λ _. ⌜ now (out .exit) ≡ outAfter (now (out .entry)) at (stopText clock) ⌝ }
 {
     put_line(out, at, b'X', [clock, 6, 0, 0, 0, 0, 0, 0], 2)
 }
 
 // The last line: the clock and the bytes moved.
 pub fn put_end(out: &mut [u8], at: usize, clock: u32, bytes: u32) -> usize
-    ensures { λ r. ⌜ r ≡ past (now (out .entry)) at (endText clock bytes) ⌝ }
-    ensures { λ _. ⌜ now (out .exit) ≡ written (now (out .entry)) at (endText clock bytes) ⌝ }
+    ensures { λ r. ⌜ r ≡ placeAfter (now (out .entry)) at (endText clock bytes) ⌝ }
+    ensures { λ _. ⌜ now (out .exit) ≡ outAfter (now (out .entry)) at (endText clock bytes) ⌝ }
 {
     put_line(out, at, b'E', [clock, bytes, 0, 0, 0, 0, 0, 0], 2)
 }
 
 // The only line of a bad sheet: the refusal and its place.
 pub fn put_fault(out: &mut [u8], at: usize, number: u32, place: u32) -> usize
-    ensures { λ r. ⌜ r ≡ past (now (out .entry)) at (faultText number place) ⌝ }
-    ensures { λ _. ⌜ now (out .exit) ≡ written (now (out .entry)) at (faultText number place) ⌝ }
+    ensures { λ r. ⌜ r ≡ placeAfter (now (out .entry)) at (faultText number place) ⌝ }
+    ensures { λ _. ⌜ now (out .exit) ≡ outAfter (now (out .entry)) at (faultText number place) ⌝ }
 {
     put_line(out, at, b'S', [number, place, 0, 0, 0, 0, 0, 0], 2)
 }

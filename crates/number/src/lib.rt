@@ -5,7 +5,7 @@ ghost use mathlib.Core.Path.{_≡_};
 ghost use Prim.Native.Nat.{_+_, _≤_};
 ghost use lib.ListN.{drop, length};
 ghost use lib.Seq.{sets};
-ghost use Rattle.number.specs.Number.{groups, readAt, top, Below, bytesOf, writtenAt, afterWrite};
+ghost use Rattle.number.specs.Number.{groups, readNumber, top, Below, bytesOf, writeNumber, writeNumberAfter, numberSize};
 
 // What stands at a place: a value and the place past it, or why there is no number, and the place where it starts.
 pub enum NumberRead {
@@ -53,7 +53,7 @@ fn groups_at(s: &[u8], start: usize, at: usize, left: u8) -> NumberRead
 
 // The number at a place.
 pub fn read_number(s: &[u8], at: usize) -> NumberRead
-    ensures { λ r. ⌜ r ≡ readAt (now (s .entry)) at ⌝ }
+    ensures { λ r. ⌜ r ≡ readNumber (now (s .entry)) at ⌝ }
 {
     // most numbers have one byte
     if at < s.len() {
@@ -67,7 +67,7 @@ pub fn read_number(s: &[u8], at: usize) -> NumberRead
 
 // How many bytes a number takes.
 pub fn number_size(v: u32) -> usize
-    ensures { λ r. ⌜ r ≡ length (bytesOf v) ⌝ }
+    ensures { λ r. ⌜ r ≡ numberSize v ⌝ }
 {
     if v < 128 {
         1
@@ -101,8 +101,8 @@ fn put_number(out: &mut [u8], at: usize, v: u32) -> usize
 
 // Writes a number from a place on, whole or not at all.
 pub fn write_number(out: &mut [u8], at: usize, v: u32) -> NumberWritten
-    ensures { λ r. ⌜ r ≡ writtenAt (now (out .entry)) at v ⌝ }
-    ensures { λ _. ⌜ now (out .exit) ≡ afterWrite (now (out .entry)) at v ⌝ }
+    ensures { λ r. ⌜ r ≡ writeNumber (now (out .entry)) at v ⌝ }
+    ensures { λ _. ⌜ now (out .exit) ≡ writeNumberAfter (now (out .entry)) at v ⌝ }
 {
     let size = number_size(v);
     if out.len() < at {

@@ -10,7 +10,7 @@ use lib.Seq.{drop-cons, take-suc, take-all}
 use lib.Dec.{ltb}
 use Rattle.basics.proofs.Tests.{by-test}
 use Rattle.refusal.specs.declared.Refusal.{Refusal}
-use Rattle.number.specs.Number.{bytesOf, readAt, Bytes}
+use Rattle.number.specs.Number.{bytesOf, readNumber, Bytes}
 use Rattle.number.specs.declared.NumberRead.{NumberRead}
 use Rattle.number.specs.declared.NumberRead.the-variants.{Number, Refused as NoNumber}
 use Rattle.number.proofs.RoundTrip.{read-appended, written-back}
@@ -49,7 +49,7 @@ place-end list i h = rw (take-all i list h)
 
 -- at the place of a list's number its bytes have that number, and their end is the list's
 module _ (list : List ℕ) where
-  pub same-number : Numbers list → (i : ℕ) → readAt (allBytes list) (place list i) ≡ moved (place list) (listAt list i)
+  pub same-number : Numbers list → (i : ℕ) → readNumber (allBytes list) (place list i) ≡ moved (place list) (listAt list i)
   unfolding listAt place
   same-number fit i =
       by-test (ltb i (length list))
@@ -92,7 +92,7 @@ pub list-back : (list : List ℕ) → Numbers list → numbersOf (allBytes list)
 unfolding numbersOf place
 list-back list fit =
     let n = length (allBytes list) in
-    numbers-moved (readAt (allBytes list)) (listAt list) (place list) (same-number list fit) n 0
+    numbers-moved (readNumber (allBytes list)) (listAt list) (place list) (same-number list fit) n 0
     ∙ numbers-listed list n 0 (omega (arith, bytes-many list))
 
 -- a run that ends where no number stands has all the numbers there are
@@ -104,25 +104,25 @@ run-all src (suc m) (more {v = v} e s) r h = rw e (ap (λ (x : List ℕ). v ∷ 
 
 -- the bytes of a run's numbers are the bytes that it ran over
 module _ (s : List ℕ) (bytes : Bytes s) where
-  run-within : {n at end : ℕ} → Run (readAt s) n at end → at ≤ length s → (at + n ≤ end) × (end ≤ length s)
+  run-within : {n at end : ℕ} → Run (readNumber s) n at end → at ≤ length s → (at + n ≤ end) × (end ≤ length s)
   run-within none h = (omega arith, h)
   run-within (more {at = at} e r) h = let w = read-within s at e in let t = run-within r (w .1) in (omega arith, t .1)
 
-  run-bytes : {n at end : ℕ} → Run (readAt s) n at end → drop at s ≡ allBytes (numbers (readAt s) n at) ++ drop end s
+  run-bytes : {n at end : ℕ} → Run (readNumber s) n at end → drop at s ≡ allBytes (numbers (readNumber s) n at) ++ drop end s
   run-bytes none = refl
   run-bytes (more {n = n} {at = at} {v = v} {next = next} {end = end} e r) =
       rw e
       (written-back s at bytes e .form
       ∙ ap (λ (x : List ℕ). bytesOf v ++ x) (run-bytes r)
-      ∙ sym (append-assoc (bytesOf v) (allBytes (numbers (readAt s) n next)) (drop end s)))
+      ∙ sym (append-assoc (bytesOf v) (allBytes (numbers (readNumber s) n next)) (drop end s)))
 
-  pub told : {m end : ℕ} → Tells (readAt s) m 0 (Good end) → length s ≤ end → (length (numbersOf s) ≤ m) × (allBytes (numbersOf s) ≡ s)
+  pub told : {m end : ℕ} → Tells (readNumber s) m 0 (Good end) → length s ≤ end → (length (numbersOf s) ≤ m) × (allBytes (numbersOf s) ≡ s)
   unfolding numbersOf
   told (good {n = n} {end = end} r l) w =
       let t = run-within r (omega arith) in
-      let all = run-all (readAt s) (length s) r (read-end s end w) (omega arith) in
-      let kept = sym (run-bytes r ∙ ap (λ (x : List ℕ). allBytes (numbers (readAt s) n 0) ++ x) (drop-of-length-le s w)) in
-      (rw all (omega (arith, numbers-most (readAt s) n 0)), rw all (sym (append-nil (allBytes (numbers (readAt s) n 0))) ∙ kept))
+      let all = run-all (readNumber s) (length s) r (read-end s end w) (omega arith) in
+      let kept = sym (run-bytes r ∙ ap (λ (x : List ℕ). allBytes (numbers (readNumber s) n 0) ++ x) (drop-of-length-le s w)) in
+      (rw all (omega (arith, numbers-most (readNumber s) n 0)), rw all (sym (append-nil (allBytes (numbers (readNumber s) n 0))) ∙ kept))
 
 -- in a list each number of a run is one index
 list-run : (list : List ℕ) {n at end : ℕ} → Run (listAt list) n at end → at ≤ length list → (end ≡ at + n) × (end ≤ length list)
@@ -142,10 +142,10 @@ followed-fit (Number v next) f h k zero = h v next refl
 followed-fit (Number v next) f h k (suc i) = k next i
 followed-fit (NoNumber why p) f h k i = omega arith
 
-pub numbers-fit : (bytes : List ℕ) → Bytes bytes → (n at : ℕ) → Numbers (numbers (readAt bytes) n at)
+pub numbers-fit : (bytes : List ℕ) → Bytes bytes → (n at : ℕ) → Numbers (numbers (readNumber bytes) n at)
 numbers-fit bytes y zero at = λ i. omega arith
 numbers-fit bytes y (suc n) at =
-    followed-fit (readAt bytes at) (numbers (readAt bytes) n) (λ v next e. written-back bytes at y e .fits) (numbers-fit bytes y n)
+    followed-fit (readNumber bytes at) (numbers (readNumber bytes) n) (λ v next e. written-back bytes at y e .fits) (numbers-fit bytes y n)
 
 -- a part of a list that is good ends at most one past its end, if it begins there
 list-ends : (list : List ℕ) {n at end : ℕ} → Run (listAt list) n at end → at ≤ length list + 1 → end ≤ length list + 1

@@ -7,7 +7,7 @@ use native.Mathlib.Omega.{arith}
 use borrow.Author.Tests.{leb-true}
 use lib.Dec.{leb}
 use Rattle.basics.proofs.Tests.{by-test, and-right}
-use Rattle.refusal.specs.Refusal.{numberOf}
+use Rattle.refusal.specs.Refusal.{refusalNumber}
 use Rattle.refusal.specs.declared.Refusal.{Refusal}
 use Rattle.number.specs.declared.NumberRead.{NumberRead}
 use Rattle.number.specs.declared.NumberRead.the-variants.{Number, Refused as NoNumber}
@@ -24,7 +24,7 @@ pub data Run (src : Source) : ℕ → ℕ → ℕ → Type 0 where
 -- it is 11, the numberAt said so
 pub data Tells (src : Source) : ℕ → ℕ → Part → Type 0 where
   good : {most n at end : ℕ} → Run src n at end → n ≤ most → Tells src most at (Good end)
-  fault : {most at : ℕ} {why : Refusal} {place : ℕ} → (numberOf why ≡ 11 → (q : ℕ) × (src q ≡ NoNumber why place))
+  fault : {most at : ℕ} {why : Refusal} {place : ℕ} → (refusalNumber why ≡ 11 → (q : ℕ) × (src q ≡ NoNumber why place))
       → Tells src most at (Fault why place)
 
 module _ {src : Source} where
@@ -52,7 +52,7 @@ module _ {src : Source} where
   tells-cond true p q = p
   tells-cond false p q = q
 
-  pub ranged-tells : (low high : ℕ) (why : Refusal) {m at : ℕ} {f : ℕ → ℕ → Part} → (numberOf why ≡ 11 → ⊥)
+  pub ranged-tells : (low high : ℕ) (why : Refusal) {m at : ℕ} {f : ℕ → ℕ → Part} → (refusalNumber why ≡ 11 → ⊥)
       → ((v next : ℕ) → v ≤ high → Tells src m next (f v next))
       → (got : NumberRead) → src at ≡ got → Tells src (suc m) at (withNumber (inRange low high why at got) f)
   ranged-tells low high why {at = at} other h (NoNumber not p) r = fault (λ e. (at, r))
@@ -68,7 +68,7 @@ module _ {src : Source} where
 
 module _ (src : Source) where
   -- a part that begins with a number in range
-  pub tells-ranged : (low high : ℕ) (why : Refusal) (at : ℕ) {m : ℕ} {f : ℕ → ℕ → Part} → (numberOf why ≡ 11 → ⊥)
+  pub tells-ranged : (low high : ℕ) (why : Refusal) (at : ℕ) {m : ℕ} {f : ℕ → ℕ → Part} → (refusalNumber why ≡ 11 → ⊥)
       → ((v next : ℕ) → v ≤ high → Tells src m next (f v next))
       → Tells src (suc m) at (withNumber (numberBetween src low high why at) f)
   unfolding numberBetween

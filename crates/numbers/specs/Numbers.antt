@@ -7,11 +7,11 @@ use lib.ListN.{length, getD, replicate}
 use lib.Seq.{sets}
 use lib.Dec.{leb, ltb}
 use Rattle.refusal.specs.declared.Refusal.{Refusal}
-use Rattle.refusal.specs.Refusal.{numberOf, refusalBy}
+use Rattle.refusal.specs.Refusal.{refusalNumber, refusalBy}
 use Rattle.number.specs.declared.NumberRead.{NumberRead}
 use Rattle.number.specs.declared.NumberRead.the-variants.{Number, Refused}
 use Rattle.number.specs.declared.NumberWritten.{NumberWritten}
-use Rattle.number.specs.Number.{readAt, bytesOf, wholeAt, wholeAfter}
+use Rattle.number.specs.Number.{readNumber, bytesOf, wholeAt, wholeAfter}
 use Rattle.numbers.specs.declared.Part.{Part}
 use Rattle.numbers.specs.declared.Part.the-variants.{Good, Fault}
 use Rattle.numbers.specs.declared.Taken.{Taken}
@@ -19,9 +19,9 @@ use Rattle.numbers.specs.declared.Taken.{Taken}
 -- a part in the paper's numbers: 0 and the place after it, or the refusal and its place
 abbrev pub partNumbers : Part → List ℕ
 partNumbers (Good at) = 0 ∷ at ∷ []
-partNumbers (Fault why place) = numberOf why ∷ place ∷ []
+partNumbers (Fault why place) = refusalNumber why ∷ place ∷ []
 
--- what stands at a place of a row: `readAt` says it of bytes, and this of a list. "10: the sheet ends .. before [a number] that is due"
+-- what stands at a place of a row: `readNumber` says it of bytes, and this of a list. "10: the sheet ends .. before [a number] that is due"
 unfoldable pub listAt : List ℕ → ℕ → NumberRead
 listAt list at = cond (ltb at (length list)) (Number (getD list at 0) (at + 1)) (Refused (refusalBy 10) at)
 
@@ -31,7 +31,7 @@ Source = ℕ → NumberRead
 -- the bytes or the list, and how long that is
 abbrev pub numberAt : Bool → List ℕ → List ℕ → Source
 numberAt true bytes list = listAt list
-numberAt false bytes list = readAt bytes
+numberAt false bytes list = readNumber bytes
 
 abbrev pub lengthOf : Bool → List ℕ → List ℕ → ℕ
 lengthOf true bytes list = length list
@@ -79,7 +79,7 @@ numbersAt src n at = taken src (min n 6) at
 
 -- the numbers of bytes, up to the end or to a fault; and the bytes of a list of numbers
 unfoldable pub numbersOf : List ℕ → List ℕ
-numbersOf bytes = numbers (readAt bytes) (length bytes) 0
+numbersOf bytes = numbers (readNumber bytes) (length bytes) 0
 
 abbrev pub allBytes : List ℕ → List ℕ
 allBytes [] = []

@@ -6,19 +6,19 @@ use native.Mathlib.Omega.{arith}
 use lib.ListN.{getD-replicate}
 use Rattle.basics.specs.Limits.{places}
 use Rattle.frame.specs.declared.Setup.{Setup}
-use Rattle.channel.specs.Channel.{fresh, hasRequest, requestOf}
+use Rattle.channel.specs.Channel.{freshChannel, hasRequest, requestOf}
 use Rattle.sound.specs.Sound.{isBlank}
 use Rattle.sound.proofs.SoundFacts.{Sound}
 
 -- no level has a request
-fresh-none : (l : ℕ) → l < places → hasRequest (fresh .left) l ≡ false
+fresh-none : (l : ℕ) → l < places → hasRequest (freshChannel .left) l ≡ false
 fresh-none l k = rw (getD-replicate {A = ℕ} places l 0 0 k)
 
-fresh-blank : (l : ℕ) → l < places → isBlank (requestOf fresh l) ≡ true
+fresh-blank : (l : ℕ) → l < places → isBlank (requestOf freshChannel l) ≡ true
 unfolding isBlank
 fresh-blank l k = rw (getD-replicate {A = ℕ} places l 0 0 k)
 
-pub fresh-sound : (setup : Setup) → Sound setup fresh
+pub fresh-sound : (setup : Setup) → Sound setup freshChannel
 fresh-sound setup =
     record {
       settled =

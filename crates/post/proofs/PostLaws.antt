@@ -14,7 +14,7 @@ use Rattle.basics.specs.Limits.{systemMaster}
 use Rattle.basics.proofs.Tests.{by-test, and-left, and-right}
 use Rattle.frame.specs.Frame.{isFramed}
 use Rattle.frame.specs.declared.Setup.{Setup}
-use Rattle.frame.specs.Allowance.{allowance, isWithin}
+use Rattle.frame.specs.Allowance.{allowanceOf, isWithin}
 use Rattle.frame.specs.Rows.{isPresent}
 use Rattle.frame.proofs.FrameLaws.{level-facts-of}
 use Rattle.channel.specs.declared.Phase.the-variants.{Granted}
@@ -107,7 +107,7 @@ module _ (setup : Setup) (ch : Channel) (p : Order) (shaped : Shaped ch) (ok : A
       let f = transfer-fits setup (ok .framed) o (requestIn p) (ap (isPresent (setup .levels)) l ∙ ok .present) (rw l fits) in
       ap (λ (q : Request). isInTime setup o q (ch .clock) t) (here o l)
       ∙ rw (ne-eqb (p .length) 0 (omega (arith, fits .some)))
-      (le-leb (transferOf setup o (requestIn p) + ch .clock) (t + allowance setup) (omega arith)))
+      (le-leb (transferOf setup o (requestIn p) + ch .clock) (t + allowanceOf setup) (omega arith)))
       (λ b. ap (λ (q : Request). isInTime setup o q (ch .clock) t) (other o (eqb-false o (p .level) b)) ∙ i .kept)
 
   pub post-settled : Settled setup (withRequest ch (p .level) (requestIn p))

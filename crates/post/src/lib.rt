@@ -3,9 +3,9 @@
 use channel::Channel;
 use channel::Judged;
 use channel::Request;
+use frame::FramedStore;
 use frame::Order;
 use frame::Setup;
-use frame::Store;
 use refusal::Refusal;
 use refusal::Verdict;
 ghost use mathlib.Core.Path.{_≡_};
@@ -44,8 +44,8 @@ fn post_verdict(setup: Setup, channel: Channel, order: Order) -> Verdict
 {
     let store = sound::sound_store(setup, channel);
     match store {
-        Store::Broken => Verdict::Refused(Refusal::Unsound),
-        Store::Length(_) => order_verdict(setup, channel, order),
+        FramedStore::Broken => Verdict::Refused(Refusal::Unsound),
+        FramedStore::Length(_) => order_verdict(setup, channel, order),
     }
 }
 
@@ -53,7 +53,7 @@ fn post_verdict(setup: Setup, channel: Channel, order: Order) -> Verdict
 fn accepted(channel: Channel, order: Order) -> Channel
     ensures { λ r. ⌜ r ≡ posted channel order ⌝ }
 {
-    channel::line_rule(channel::put_request(channel, order.level as usize, request_in(order)))
+    channel::line_rule(channel::with_request(channel, order.level as usize, request_in(order)))
 }
 
 // Posts a request. A refused post gives back the channel that it got.

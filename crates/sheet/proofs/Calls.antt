@@ -10,15 +10,15 @@ use lib.ListN.{length, getD, drop, take}
 use lib.Seq.{sets-eq, take-append-seam}
 use lib.Dec.{leb, ltb}
 use Rattle.basics.proofs.Tests.{by-test}
-use Rattle.refusal.specs.Refusal.{numberOf}
+use Rattle.refusal.specs.Refusal.{refusalNumber}
 use Rattle.refusal.specs.declared.Refusal.{Refusal}
 use Rattle.refusal.specs.declared.Refusal.the-variants.{NoRoom, SheetEnds}
-use Rattle.number.specs.Number.{readAt, Bytes}
+use Rattle.number.specs.Number.{readNumber, Bytes}
 use Rattle.number.specs.declared.NumberRead.the-variants.{Number, Refused as NoNumber}
 use Rattle.numbers.specs.declared.Part.{Part}
 use Rattle.numbers.specs.declared.Part.the-variants.{Good, Fault}
 use Rattle.sheet.specs.declared.SheetAnswer.the-variants.{Done, Refused}
-use Rattle.sheet.specs.Sheet.{sheet, answered, stored, readAnswer, readStored, writeAnswer, writeStored}
+use Rattle.sheet.specs.Sheet.{sheet, answered, stored, readSheet, readSheetAfter, writeSheet, writeSheetAfter}
 use Rattle.numbers.specs.Numbers.{listAt, numbersOf, allBytes}
 use Rattle.numbers.proofs.Moved.{movedTo}
 use Rattle.numbers.proofs.Parts.{no-good}
@@ -73,24 +73,24 @@ stores judged result out g h = rw (g, le-leb (length result) (length out) h)
 
 module _ (bytes out : List ℕ) where
   -- what the reader stored is the sheet's list of numbers
-  pub read-stored : {n : ℕ} → readAnswer bytes (length out) ≡ Done n → readStored bytes out ≡ numbersOf bytes ++ drop n out
-  unfolding readAnswer readStored
-  read-stored e = rw e (success (sheet (readAt bytes) (length bytes)) (numbersOf bytes) out e .left)
+  pub read-stored : {n : ℕ} → readSheet bytes (length out) ≡ Done n → readSheetAfter bytes out ≡ numbersOf bytes ++ drop n out
+  unfolding readSheet readSheetAfter
+  read-stored e = rw e (success (sheet (readNumber bytes) (length bytes)) (numbersOf bytes) out e .left)
 
   -- A refusal leaves the lent slice.
-  pub read-refused : {why : Refusal} {p : ℕ} → readAnswer bytes (length out) ≡ Refused why p → readStored bytes out ≡ out
-  unfolding readStored
+  pub read-refused : {why : Refusal} {p : ℕ} → readSheet bytes (length out) ≡ Refused why p → readSheetAfter bytes out ≡ out
+  unfolding readSheetAfter
   read-refused e = rw e
 
 module _ (list out : List ℕ) where
   -- what the writer stored is the bytes of the list
-  pub write-stored : {n : ℕ} → writeAnswer list (length out) ≡ Done n → writeStored list out ≡ allBytes list ++ drop n out
-  unfolding writeAnswer writeStored
+  pub write-stored : {n : ℕ} → writeSheet list (length out) ≡ Done n → writeSheetAfter list out ≡ allBytes list ++ drop n out
+  unfolding writeSheet writeSheetAfter
   write-stored e = rw e (success (sheet (listAt list) (length list)) (allBytes list) out e .left)
 
   -- A refusal leaves the lent slice.
-  pub write-refused : {why : Refusal} {p : ℕ} → writeAnswer list (length out) ≡ Refused why p → writeStored list out ≡ out
-  unfolding writeStored
+  pub write-refused : {why : Refusal} {p : ℕ} → writeSheet list (length out) ≡ Refused why p → writeSheetAfter list out ≡ out
+  unfolding writeSheetAfter
   write-refused e = rw e
 
 -- a judgement that is good where it was moved to is good
@@ -102,27 +102,27 @@ front : (xs ys : List ℕ) (n : ℕ) → n ≡ length xs → take n (xs ++ ys) �
 front xs ys n e = rw e (take-append-seam xs ys)
 
 -- The numbers of a valid sheet are a valid list.
-pub list-good : (bytes : List ℕ) {end : ℕ} → Bytes bytes → sheet (readAt bytes) (length bytes) ≡ Good end
+pub list-good : (bytes : List ℕ) {end : ℕ} → Bytes bytes → sheet (readNumber bytes) (length bytes) ≡ Good end
     → (mid : ℕ) × (sheet (listAt (numbersOf bytes)) (length (numbersOf bytes)) ≡ Good mid)
 unfolding numbersOf
 list-good bytes y g =
     let list = numbersOf bytes in
-    let kept = ap (λ (b : List ℕ). sheet (readAt b) (length b)) (bytes-back bytes y g) ∙ g in
+    let kept = ap (λ (b : List ℕ). sheet (readNumber b) (length b)) (bytes-back bytes y g) ∙ g in
     moved-good (place list) (sheet (listAt list) (length list))
     (sym (judged-alike list (numbers-fit bytes y (length bytes) 0)) ∙ kept)
 
 -- what the reader gives is the sheet's list, which is valid
 pub record ReadList (bytes out : List ℕ) (n : ℕ) : Type 0 where
   pub end : ℕ
-  pub list-is : take n (readStored bytes out) ≡ numbersOf bytes
-  pub sheet-good : sheet (readAt bytes) (length bytes) ≡ Good end
+  pub list-is : take n (readSheetAfter bytes out) ≡ numbersOf bytes
+  pub sheet-good : sheet (readNumber bytes) (length bytes) ≡ Good end
   pub mid : ℕ
   pub list-valid : sheet (listAt (numbersOf bytes)) (length (numbersOf bytes)) ≡ Good mid
 
-pub read-list : (bytes out : List ℕ) {n : ℕ} → Bytes bytes → readAnswer bytes (length out) ≡ Done n → ReadList bytes out n
-unfolding readAnswer
+pub read-list : (bytes out : List ℕ) {n : ℕ} → Bytes bytes → readSheet bytes (length out) ≡ Done n → ReadList bytes out n
+unfolding readSheet
 read-list bytes out {n} y e =
-    let s = success (sheet (readAt bytes) (length bytes)) (numbersOf bytes) out e in
+    let s = success (sheet (readNumber bytes) (length bytes)) (numbersOf bytes) out e in
     let g = list-good bytes y (s .is-good) in
     record {
       end = s .end;
@@ -133,10 +133,10 @@ read-list bytes out {n} y e =
     }
 
 -- A valid sheet, read and written again, has the same bytes.
-pub read-written : (bytes out back : List ℕ) {n : ℕ} → Bytes bytes → readAnswer bytes (length out) ≡ Done n → length bytes ≤ length back
-    → (writeAnswer (take n (readStored bytes out)) (length back) ≡ Done (length bytes))
-    × (take (length bytes) (writeStored (take n (readStored bytes out)) back) ≡ bytes)
-unfolding writeAnswer
+pub read-written : (bytes out back : List ℕ) {n : ℕ} → Bytes bytes → readSheet bytes (length out) ≡ Done n → length bytes ≤ length back
+    → (writeSheet (take n (readSheetAfter bytes out)) (length back) ≡ Done (length bytes))
+    × (take (length bytes) (writeSheetAfter (take n (readSheetAfter bytes out)) back) ≡ bytes)
+unfolding writeSheet
 read-written bytes out back y e h =
     let list = numbersOf bytes in
     let r = read-list bytes out y e in
@@ -150,17 +150,17 @@ read-written bytes out back y e h =
     )
 
 -- A valid list, written and read again, is the same list.
-pub written-read : (list out back : List ℕ) {n : ℕ} → Numbers list → writeAnswer list (length out) ≡ Done n → length list ≤ length back
-    → (readAnswer (take n (writeStored list out)) (length back) ≡ Done (length list))
-    × (take (length list) (readStored (take n (writeStored list out)) back) ≡ list)
-unfolding readAnswer writeAnswer
+pub written-read : (list out back : List ℕ) {n : ℕ} → Numbers list → writeSheet list (length out) ≡ Done n → length list ≤ length back
+    → (readSheet (take n (writeSheetAfter list out)) (length back) ≡ Done (length list))
+    × (take (length list) (readSheetAfter (take n (writeSheetAfter list out)) back) ≡ list)
+unfolding readSheet writeSheet
 written-read list out back {n} fit e h =
     let bytes = allBytes list in
     let s = success (sheet (listAt list) (length list)) bytes out e in
     let same = list-back list fit in
     let alike = judged-alike list fit ∙ ap (movedTo (place list)) (s .is-good) in
     let taken = ap (take n) (write-stored list out e) ∙ front bytes (drop n out) n (s .size) in
-    let done = stores (sheet (readAt bytes) (length bytes)) (numbersOf bytes) back alike (rw same h) in
+    let done = stores (sheet (readNumber bytes) (length bytes)) (numbersOf bytes) back alike (rw same h) in
     let size = ap length (sym same) in
     let rest = drop (length (numbersOf bytes)) back in
     rw taken (
@@ -176,23 +176,23 @@ list-refuses list at {why} {p} e =
     (λ t. let q : Number (getD list at 0) (at + 1) ≡ NoNumber why p = rw t at e in no-number (sym q))
     (λ f. let q : NoNumber SheetEnds at ≡ NoNumber why p = rw f at e in cc)
 
-never-eleven : (list : List ℕ) {m at : ℕ} {why : Refusal} {p : ℕ} → Tells (listAt list) m at (Fault why p) → numberOf why ≡ 11 → ⊥
+never-eleven : (list : List ℕ) {m at : ℕ} {why : Refusal} {p : ℕ} → Tells (listAt list) m at (Fault why p) → refusalNumber why ≡ 11 → ⊥
 never-eleven list {why = why} (fault t) e =
     let s = t e in
-    let q = ap numberOf (list-refuses list (s .0) (s .1)) in
+    let q = ap refusalNumber (list-refuses list (s .0) (s .1)) in
     omega arith
 
 -- The writer never gives 11.
-pub write-eleven : (list : List ℕ) (room : ℕ) {why : Refusal} {p : ℕ} → writeAnswer list room ≡ Refused why p → numberOf why ≡ 11 → ⊥
-unfolding writeAnswer
+pub write-eleven : (list : List ℕ) (room : ℕ) {why : Refusal} {p : ℕ} → writeSheet list room ≡ Refused why p → refusalNumber why ≡ 11 → ⊥
+unfolding writeSheet
 write-eleven list room {why} {p} e q = go (sheet (listAt list) (length list)) (sheet-tells (listAt list) (length list)) e
   where
     go : (j : Part) → Tells (listAt list) 7300 0 j → answered j (length (allBytes list)) room ≡ Refused why p → ⊥
-    go (Fault other place) t r = never-eleven list t (ap numberOf (refused-one r) ∙ q)
+    go (Fault other place) t r = never-eleven list t (ap refusalNumber (refused-one r) ∙ q)
     go (Good end) t r =
         by-test (leb (length (allBytes list)) room)
         (λ b. let s : Done (length (allBytes list)) ≡ Refused why p = rw b at r in not-done (sym s))
         (λ b.
         let s : Refused NoRoom 0 ≡ Refused why p = rw b at r in
-        let n = ap numberOf (refused-one s) in
+        let n = ap refusalNumber (refused-one s) in
         omega arith)

@@ -9,21 +9,21 @@ use lib.ListN.{length, replicate}
 use Rattle.basics.specs.Scan.{allBelow}
 use Rattle.cycle.specs.Cycle.{isWidth, isPort}
 use Rattle.frame.specs.Frame.{
-  levelInRange,
+  isLevelInRange,
   isRising,
   isLastFifteen,
   levelRowFits,
   isTime,
   limitOf,
   isPlaced,
-  slaveInRange,
+  isSlaveInRange,
   areApart,
   isApart,
   lengthsBefore,
   slaveRowFits,
 }
-use Rattle.refusal.specs.Refusal.{numberOf}
-use Rattle.number.specs.Number.{readAt, bytesOf}
+use Rattle.refusal.specs.Refusal.{refusalNumber}
+use Rattle.number.specs.Number.{readNumber, bytesOf}
 use Rattle.sheet.specs.declared.SheetAnswer.{SheetAnswer}
 use Rattle.sheet.specs.declared.SheetAnswer.the-variants.{Done, Refused}
 use Rattle.numbers.specs.Numbers.{listAt, numberBetween, numbersOf}
@@ -35,21 +35,21 @@ use Rattle.sheet.specs.Sheet.{
   countedEvents,
   body,
   sheet,
-  readAnswer,
-  readStored,
-  writeAnswer,
-  writeStored,
+  readSheet,
+  readSheetAfter,
+  writeSheet,
+  writeSheetAfter,
 }
 
 data Example : Type 0 where
   -- these bytes are read as this list, and the list is written as these bytes
   is : List ℕ → List ℕ → Example
-  -- the reader refuses these bytes, with room for so many numbers: the document's number, and the place
+  -- the reader refuses these bytes, with room for this many numbers: the document's number, and the place
   reads : List ℕ → ℕ → ℕ → ℕ → Example
-  -- the writer refuses this list, with room for so many bytes
+  -- the writer refuses this list, with room for this many bytes
   writes : List ℕ → ℕ → ℕ → ℕ → Example
 
--- edition and level row 15, and behind them one slave row; the small sheet has no events
+-- edition and level row 15, and after them one slave row; the small sheet has no events
 levelPart : List ℕ
 levelPart = 0x01 ∷ 0x01 ∷ 0x0f ∷ 0x02 ∷ 0x00 ∷ []
 
@@ -78,7 +78,7 @@ table =
     -- 12: edition 0 and 2
     ∷ reads (0x00 ∷ []) 99 12 0
     ∷ writes (2 ∷ []) 99 12 0
-    -- 13: counts 0 and 17; a last row that is not 15; a row that doesn't rise, behind a 15 that is not the last
+    -- 13: counts 0 and 17; a last row that is not 15; a row that doesn't rise, after a 15 that is not the last
     ∷ reads (0x01 ∷ 0x00 ∷ []) 99 13 1
     ∷ reads (0x01 ∷ 0x11 ∷ []) 99 13 1
     ∷ reads (0x01 ∷ 0x01 ∷ 0x0e ∷ 0x02 ∷ 0x00 ∷ []) 99 13 2
@@ -116,17 +116,17 @@ saysDone n (Refused why place) = false
 
 saysRefused : ℕ → ℕ → SheetAnswer → Bool
 saysRefused n p (Done m) = false
-saysRefused n p (Refused why place) = eqb (numberOf why) n && eqb place p
+saysRefused n p (Refused why place) = eqb (refusalNumber why) n && eqb place p
 
 -- the lent slice holds sevens: the result stands before the rest of them, or all of them stay
 holds : Example → Bool
 holds (is bytes list) =
-    saysDone (length list) (readAnswer bytes 99)
-    && (same (readStored bytes (replicate 99 7)) (list ++ replicate (99 - length list) 7)
-    && (saysDone (length bytes) (writeAnswer list 99)
-    && same (writeStored list (replicate 99 7)) (bytes ++ replicate (99 - length bytes) 7)))
-holds (reads bytes room n p) = saysRefused n p (readAnswer bytes room) && same (readStored bytes (replicate room 7)) (replicate room 7)
-holds (writes list room n p) = saysRefused n p (writeAnswer list room) && same (writeStored list (replicate room 7)) (replicate room 7)
+    saysDone (length list) (readSheet bytes 99)
+    && (same (readSheetAfter bytes (replicate 99 7)) (list ++ replicate (99 - length list) 7)
+    && (saysDone (length bytes) (writeSheet list 99)
+    && same (writeSheetAfter list (replicate 99 7)) (bytes ++ replicate (99 - length bytes) 7)))
+holds (reads bytes room n p) = saysRefused n p (readSheet bytes room) && same (readSheetAfter bytes (replicate room 7)) (replicate room 7)
+holds (writes list room n p) = saysRefused n p (writeSheet list room) && same (writeSheetAfter list (replicate room 7)) (replicate room 7)
 
 allHold : List Example → Bool
 allHold [] = true
@@ -134,7 +134,7 @@ allHold (e ∷ es) = holds e && allHold es
 
 examples : allHold table ≡ true
 unfolding allHold table holds same saysDone saysRefused levelPart rows small smallList
-    readAnswer readStored writeAnswer writeStored numbersOf sheet body head countedRows countedEvents event stepCount numberBetween listAt readAt bytesOf
-    levelInRange isRising isLastFifteen levelRowFits isTime limitOf isPlaced slaveInRange areApart isApart lengthsBefore slaveRowFits
+    readSheet readSheetAfter writeSheet writeSheetAfter numbersOf sheet body head countedRows countedEvents event stepCount numberBetween listAt readNumber bytesOf
+    isLevelInRange isRising isLastFifteen levelRowFits isTime limitOf isPlaced isSlaveInRange areApart isApart lengthsBefore slaveRowFits
     isWidth isPort allBelow
 examples = refl

@@ -6,7 +6,7 @@ use native.Mathlib.Nat.{suc-mul, mul-le-mul-right}
 use native.Mathlib.Omega.{arith}
 use lib.Dec.{eqb, ltb}
 use Rattle.basics.specs.Limits.{rowsMost, stepsMost, eventsMost}
-use Rattle.refusal.specs.Refusal.{numberOf}
+use Rattle.refusal.specs.Refusal.{refusalNumber}
 use Rattle.refusal.specs.declared.Refusal.the-variants.{BadEdition, BadEvents}
 use Rattle.number.specs.declared.NumberRead.{NumberRead}
 use Rattle.number.specs.declared.NumberRead.the-variants.{Number, Refused as NoNumber}
@@ -22,7 +22,7 @@ use Rattle.frame.specs.Kind.{rowSize, badRows, noRows, withCount, putRow, rowFi
 use Rattle.sheet.specs.declared.RowsRead.{RowsRead}
 use Rattle.sheet.specs.Sheet.{thenRows, withRows, rowsFrom, countedRows, head, stepCount, event, events, countedEvents, body, sheet}
 
-bad-eleven : (kind : RowKind) → numberOf (badRows kind) ≡ 11 → ⊥
+bad-eleven : (kind : RowKind) → refusalNumber (badRows kind) ≡ 11 → ⊥
 bad-eleven Levels e = omega arith
 bad-eleven Slaves e = omega arith
 

@@ -6,9 +6,9 @@ use mathlib.Core.List.{List, [], _∷_}
 use lib.ListN.{length}
 use lib.Seq.{sets}
 use lib.Dec.{eqb, leb, ltb}
-use Rattle.refusal.specs.Refusal.{numberOf, refusalBy}
+use Rattle.refusal.specs.Refusal.{refusalNumber, refusalBy}
 use Rattle.basics.specs.Limits.{rowsMost, stepsMost, eventsMost}
-use Rattle.number.specs.Number.{readAt}
+use Rattle.number.specs.Number.{readNumber}
 use Rattle.number.specs.declared.NumberRead.{NumberRead}
 use Rattle.number.specs.declared.NumberRead.the-variants.{Number, Refused as NoNumber}
 use Rattle.numbers.specs.Numbers.{Source, listAt, withNumber, andThen, numberBetween, passed, numbers, numbersOf, allBytes}
@@ -90,7 +90,7 @@ sheet src len = withNumber (numberBetween src 1 1 (refusalBy 12) 0) (λ edition 
 -- an answer in the paper's numbers: 0 and the result's length, or "S, number, place"
 abbrev pub sheetNumbers : SheetAnswer → List ℕ
 sheetNumbers (Done n) = 0 ∷ n ∷ []
-sheetNumbers (Refused why place) = numberOf why ∷ place ∷ []
+sheetNumbers (Refused why place) = refusalNumber why ∷ place ∷ []
 
 -- "17: place 0, the lent result is too short"; "17 comes last"
 abbrev pub answered : Part → ℕ → ℕ → SheetAnswer
@@ -103,15 +103,15 @@ stored (Done n) result out = sets out 0 result
 stored (Refused why place) result out = out
 
 -- the reader: bytes of a sheet to its list of numbers
-unfoldable pub readAnswer : List ℕ → ℕ → SheetAnswer
-readAnswer bytes room = answered (sheet (readAt bytes) (length bytes)) (length (numbersOf bytes)) room
+unfoldable pub readSheet : List ℕ → ℕ → SheetAnswer
+readSheet bytes room = answered (sheet (readNumber bytes) (length bytes)) (length (numbersOf bytes)) room
 
-unfoldable pub readStored : List ℕ → List ℕ → List ℕ
-readStored bytes out = stored (readAnswer bytes (length out)) (numbersOf bytes) out
+unfoldable pub readSheetAfter : List ℕ → List ℕ → List ℕ
+readSheetAfter bytes out = stored (readSheet bytes (length out)) (numbersOf bytes) out
 
 -- the writer: a list of numbers to the bytes of a sheet
-unfoldable pub writeAnswer : List ℕ → ℕ → SheetAnswer
-writeAnswer list room = answered (sheet (listAt list) (length list)) (length (allBytes list)) room
+unfoldable pub writeSheet : List ℕ → ℕ → SheetAnswer
+writeSheet list room = answered (sheet (listAt list) (length list)) (length (allBytes list)) room
 
-unfoldable pub writeStored : List ℕ → List ℕ → List ℕ
-writeStored list out = stored (writeAnswer list (length out)) (allBytes list) out
+unfoldable pub writeSheetAfter : List ℕ → List ℕ → List ℕ
+writeSheetAfter list out = stored (writeSheet list (length out)) (allBytes list) out

@@ -16,7 +16,7 @@ ghost use Rattle.basics.specs.Limits.{rowsMost};
 ghost use Rattle.numbers.specs.Numbers.{numberAt, lengthOf};
 ghost use Rattle.sheet.specs.Sheet.{rowsFrom, countedRows, head, headOf};
 ghost use Rattle.sheet.specs.Sheet.{stepCount, event, events, countedEvents, sheetEnd, body, sheet};
-ghost use Rattle.sheet.specs.Sheet.{readAnswer, readStored, writeAnswer, writeStored};
+ghost use Rattle.sheet.specs.Sheet.{readSheet, readSheetAfter, writeSheet, writeSheetAfter};
 
 // Rows that were read: the set-up with them, as far as that came, and the part of the sheet that they are.
 pub struct RowsRead {
@@ -213,8 +213,8 @@ fn judge(bytes: &[u8], list: &[u32], listed: bool) -> Part
 
 // Reads the bytes of a sheet into out, as the list of its numbers.
 pub fn read_sheet(bytes: &[u8], out: &mut [u32]) -> SheetAnswer
-    ensures { λ r. ⌜ r ≡ readAnswer (now (bytes .entry)) (length (now (out .entry))) ⌝ }
-    ensures { λ _. ⌜ now (out .exit) ≡ readStored (now (bytes .entry)) (now (out .entry)) ⌝ }
+    ensures { λ r. ⌜ r ≡ readSheet (now (bytes .entry)) (length (now (out .entry))) ⌝ }
+    ensures { λ _. ⌜ now (out .exit) ≡ readSheetAfter (now (bytes .entry)) (now (out .entry)) ⌝ }
 {
     // the judge is told to read the bytes, and looks at no list
     let no_list = [0u32; 1];
@@ -233,8 +233,8 @@ pub fn read_sheet(bytes: &[u8], out: &mut [u32]) -> SheetAnswer
 
 // Writes a sheet, given as the list of its numbers, as bytes into out.
 pub fn write_sheet(list: &[u32], out: &mut [u8]) -> SheetAnswer
-    ensures { λ r. ⌜ r ≡ writeAnswer (now (list .entry)) (length (now (out .entry))) ⌝ }
-    ensures { λ _. ⌜ now (out .exit) ≡ writeStored (now (list .entry)) (now (out .entry)) ⌝ }
+    ensures { λ r. ⌜ r ≡ writeSheet (now (list .entry)) (length (now (out .entry))) ⌝ }
+    ensures { λ _. ⌜ now (out .exit) ≡ writeSheetAfter (now (list .entry)) (now (out .entry)) ⌝ }
 {
     // the judge is told to read the list, and looks at no bytes
     let no_bytes = [0u8; 1];

@@ -7,7 +7,7 @@ use native.Mathlib.Numerals.{add-one}
 use native.Mathlib.Omega.{arith}
 use lib.ListN.{length, getD, take, drop, set, replicate-append-replicate, drop-of-length-le}
 use lib.Seq.{take-all, take-suc-set, drop-cons}
-use Rattle.sheethost.specs.Host.{bytesFrom, masterStore, slaveStore, digestFrom}
+use Rattle.sheethost.specs.Host.{masterFrom, masterStore, slaveStore, digestFrom}
 
 -- a store whose first i bytes are the first of a filled one, and that has no more, is filled
 pub all-filled : (filled : ℕ → List ℕ) (store : List ℕ) (i size : ℕ) → take i store ≡ filled i → length store ≡ size → i ≤ size
@@ -15,11 +15,11 @@ pub all-filled : (filled : ℕ → List ℕ) (store : List ℕ) (i size : ℕ) �
 all-filled filled store i size begun same most whole =
     sym (take-all i store whole) ∙ begun ∙ ap filled (omega (arith, same, most, whole))
 
-bytes-more : (at i : ℕ) → bytesFrom at (suc i) ≡ bytesFrom at i ++ (((at + i) % 251) ∷ [])
+bytes-more : (at i : ℕ) → masterFrom at (suc i) ≡ masterFrom at i ++ (((at + i) % 251) ∷ [])
 bytes-more at zero = rw add-zero refl
 bytes-more at (suc i) =
     ap (λ (bytes : List ℕ). (at % 251) ∷ bytes)
-    (bytes-more (suc at) i ∙ ap (λ (n : ℕ). bytesFrom (suc at) i ++ ((n % 251) ∷ [])) (omega arith))
+    (bytes-more (suc at) i ∙ ap (λ (n : ℕ). masterFrom (suc at) i ++ ((n % 251) ∷ [])) (omega arith))
 
 -- byte i is i mod 251
 pub master-more : (store : List ℕ) (i : ℕ) → i < length store → take i store ≡ masterStore i

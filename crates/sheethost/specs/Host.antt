@@ -4,14 +4,14 @@ use Prim.Native.Nat.{ℕ, zero, suc, _+_, _*_, _%_}
 use mathlib.Core.List.{List, [], _∷_}
 use lib.ListN.{getD, replicate}
 
--- "Master store: 4,096 bytes, byte i being i mod 251": so many bytes from byte i on
-abbrev pub bytesFrom : ℕ → ℕ → List ℕ
-bytesFrom i zero = []
-bytesFrom i (suc left) = (i % 251) ∷ bytesFrom (suc i) left
+-- "Master store: 4,096 bytes, byte i being i mod 251": `left` bytes from byte i on
+abbrev pub masterFrom : ℕ → ℕ → List ℕ
+masterFrom i zero = []
+masterFrom i (suc left) = (i % 251) ∷ masterFrom (suc i) left
 
--- a master store of so many bytes
+-- a master store of `size` bytes
 abbrev pub masterStore : ℕ → List ℕ
-masterStore size = bytesFrom 0 size
+masterStore size = masterFrom 0 size
 
 -- "slave store zero"
 abbrev pub slaveStore : ℕ → List ℕ

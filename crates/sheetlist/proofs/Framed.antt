@@ -44,7 +44,7 @@ use Rattle.frame.proofs.KindLaws.{
 }
 use Rattle.sheet.specs.declared.RowsRead.{RowsRead}
 use Rattle.sheet.specs.declared.SheetAnswer.the-variants.{Done}
-use Rattle.sheet.specs.Sheet.{rowsRead, rowsFrom, countedRows, head, headOf, countedEvents, sheet, readAnswer, readStored}
+use Rattle.sheet.specs.Sheet.{rowsRead, rowsFrom, countedRows, head, headOf, countedEvents, sheet, readSheet, readSheetAfter}
 use Rattle.sheet.proofs.Calls.{read-list}
 use Rattle.sheet.proofs.Parts.{sheet-parts, head-parts, then-rows-good, with-rows-good}
 use Rattle.sheetlist.specs.Held.{setupOf, eventsFrom}
@@ -243,9 +243,9 @@ module _ (list : List ℕ) where
       }
 
 -- What was read from a sheet holds a set-up that keeps the frame.
-pub read-framed : (bytes out : List ℕ) (master : ℕ) {n : ℕ} → Bytes bytes → readAnswer bytes (length out) ≡ Done n → 1 ≤ master
+pub read-framed : (bytes out : List ℕ) (master : ℕ) {n : ℕ} → Bytes bytes → readSheet bytes (length out) ≡ Done n → 1 ≤ master
     → master ≤ storeMost
-    → isFramed (setupOf (take n (readStored bytes out)) master) ≡ true
+    → isFramed (setupOf (take n (readSheetAfter bytes out)) master) ≡ true
 read-framed bytes out master y e low high =
     let r = read-list bytes out y e in
     rw (r .list-is) (setup-framed (numbersOf bytes) master (r .list-valid) low high)

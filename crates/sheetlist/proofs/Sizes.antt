@@ -11,10 +11,10 @@ use lib.Dec.{ltb}
 use Rattle.basics.specs.Limits.{rowsMost, storeMost}
 use Rattle.basics.proofs.Tests.{by-test}
 use Rattle.cycle.proofs.Widths.{width-some, port-some}
-use Rattle.number.specs.Number.{shortest, bytesOf, readAt, Bytes}
+use Rattle.number.specs.Number.{shortest, bytesOf, readNumber, Bytes}
 use Rattle.number.proofs.Laws.{size-last, size-more, bytes-most}
 use Rattle.frame.specs.declared.SlaveRow.{SlaveRow}
-use Rattle.frame.specs.Frame.{slaveAt, present, lengthsBefore, levelsFit, slavesFit}
+use Rattle.frame.specs.Frame.{slaveAt, rowsPresent, lengthsBefore, levelsFit, slavesFit}
 use Rattle.frame.specs.Find.{slaveStoreLength}
 use Rattle.frame.proofs.FrameLaws.{LevelFacts, SlaveFacts, level-count, level-row-facts, limit-most, framed-levels, framed-slaves}
 use Rattle.frame.proofs.SlaveLaws.{slave-count, slave-row-facts, row-inside, store-most}
@@ -225,7 +225,7 @@ module _ (list : List ℕ) where
         let third : place list (eventsFrom list) ≡ place list (slavesFrom list + 1 + m * 5) = ap (place list) (omega (arith, rows .events)) in
         let last : place list (eventFrom list (eventCount list)) ≡ length (allBytes list) =
         ap (place list) (events-end list valid) ∙ place-end list (length list) (omega arith) in
-        let all : present (slavesOf .count) ≡ m = omega (arith, rows .slaves, few-slaves) in
+        let all : rowsPresent (slavesOf .count) ≡ m = omega (arith, rows .slaves, few-slaves) in
         let lengths : lengthsBefore slavesOf m ≤ storeMost = rw all at (store-most slavesOf slaves-framed) in
         omega (
           arith,
@@ -243,5 +243,5 @@ module _ (list : List ℕ) where
         )
 
 -- A valid sheet has at most 31,960 bytes, as the reader gets it.
-pub sheet-whole : (bytes : List ℕ) {end : ℕ} → Bytes bytes → sheet (readAt bytes) (length bytes) ≡ Good end → length bytes ≤ 31960
+pub sheet-whole : (bytes : List ℕ) {end : ℕ} → Bytes bytes → sheet (readNumber bytes) (length bytes) ≡ Good end → length bytes ≤ 31960
 sheet-whole bytes y g = rw (bytes-back bytes y g) at (bytes-whole (numbersOf bytes) (list-good bytes y g .1))

@@ -47,11 +47,11 @@ isSteps list at = eqb (getD list at 0) 0
 unfoldable pub eventAt : List ℕ → ℕ → Event
 eventAt list at = cond (isSteps list at) (Steps (getD list (at + 1) 0)) (Post (postAt list at))
 
--- the index past it; behind the end of the list there is no event to pass
+-- the index past it; past the end of the list there is no event to pass
 unfoldable pub nextEvent : List ℕ → ℕ → ℕ
 nextEvent list at = cond (ltb at (length list)) (at + cond (isSteps list at) 2 7) at
 
--- the events in their order: the first begins behind the event count, and each of the others behind the one before it
+-- the events in their order: the first begins after the event count, and each of the others after the one before it
 abbrev pub firstEvent : List ℕ → ℕ
 firstEvent list = eventsFrom list + 1
 

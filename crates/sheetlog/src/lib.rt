@@ -1,6 +1,6 @@
 // What the program sheetrun does: reads a job sheet from standard input, runs it and prints its log (document 01, "One sheet,
-// whole"). With the argument --many it reads many sheets, each behind its length in four bytes, lowest first, and prints
-// behind each log a line with a digest of both stores and the tally, so that another program can be compared with it sheet by
+// whole"). With the argument --many it reads many sheets, each after its length in four bytes, lowest first, and prints
+// after each log a line with a digest of both stores and the tally, so that another program can be compared with it sheet by
 // sheet.
 mod log;
 mod streams;

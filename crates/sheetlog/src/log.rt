@@ -62,11 +62,11 @@ fn log_stop(channel: Channel, tally: Tally, filled: usize, out: &mut [u8]) -> Se
     let Kept::Filled(at) = kept else {
         return stopped(channel, tally);
     };
-    let past = logline::put_stop(out, at, channel.clock);
-    going(channel, tally, past)
+    let end = logline::put_stop(out, at, channel.clock);
+    going(channel, tally, end)
 }
 
-// Up to so many steps, each with its line, as many at once as the buffer has room for; a step that meets 6 ends the event.
+// Up to `steps` steps, each with its line, as many at once as the buffer has room for; a step that meets 6 ends the event.
 fn log_steps(
     setup: Setup,
     session: Session,
@@ -88,7 +88,7 @@ fn log_steps(
         let ran = logged.ran;
         channel = ran.channel;
         tally = ran.tally;
-        filled = logged.past;
+        filled = logged.end;
         let verdict = ran.verdict;
         let Verdict::Accepted = verdict else {
             return log_stop(channel, tally, filled, out);
@@ -113,8 +113,8 @@ fn log_post(setup: Setup, session: Session, out: &mut [u8], order: Order) -> Ses
     let next = judged.channel;
     let verdict = judged.verdict;
     let number = refusal::verdict_number(verdict) as u32;
-    let past = logline::put_post(out, at, next.clock, order.level, number);
-    going(next, tally, past)
+    let end = logline::put_post(out, at, next.clock, order.level, number);
+    going(next, tally, end)
 }
 
 // The events of a valid list, one after the other, and the last line.
@@ -162,8 +162,8 @@ fn finish(session: Session, out: &mut [u8]) -> Session {
     let Kept::Filled(at) = kept else {
         return stopped(channel, tally);
     };
-    let past = logline::put_end(out, at, channel.clock, tally.bytes);
-    going(channel, tally, past)
+    let end = logline::put_end(out, at, channel.clock, tally.bytes);
+    going(channel, tally, end)
 }
 
 // A space and a number, in a line; answers where they end.
@@ -210,7 +210,7 @@ fn log_fault(why: Refusal, place: usize, out: &mut [u8]) -> bool {
     write_first(out, filled)
 }
 
-// One sheet, whole; `digests` asks for the line behind it. False where a write failed.
+// One sheet, whole; `digests` asks for the line after it. False where a write failed.
 pub(crate) fn run_sheet(
     sheet: &[u8],
     slave: &mut [u8],

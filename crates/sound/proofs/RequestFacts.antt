@@ -15,13 +15,13 @@ use Rattle.frame.specs.declared.Setup.{Setup}
 use Rattle.frame.specs.declared.FoundSlave.the-variants.{Row as Slave}
 use Rattle.frame.specs.Frame.{isFramed}
 use Rattle.frame.specs.Rows.{isPresent, levelOf}
-use Rattle.frame.specs.Allowance.{allowance}
+use Rattle.frame.specs.Allowance.{allowanceOf}
 use Rattle.frame.proofs.FoundLaws.{slave-row-of}
 use Rattle.frame.proofs.FrameLaws.{framed-slaves, level-facts-of, quarter}
 use Rattle.frame.proofs.SlaveLaws.{Found, found-slave}
 use Rattle.channel.specs.declared.Request.{Request}
 use Rattle.channel.specs.Slave.{slaveFor, slaveOf, startOf}
-use Rattle.act.specs.Cycle.{pathOf, nextTime}
+use Rattle.act.specs.Cycle.{routeOf, nextTime}
 use Rattle.sound.specs.Request.{isInRange, isInsideSlave, isOutsideMaster, requestVerdict, transferOf}
 
 -- a level's request that meets none of 3, 4 and 5
@@ -73,9 +73,9 @@ module _ (setup : Setup) (framed : isFramed setup ≡ true) where
   slave-facts-of q f = found-slave (setup .slaves) (framed-slaves setup framed) (q .space) (q .address) (q .left) _ _ (f .found)
 
   -- a transfer of an accepted request fits the allowance
-  pub transfer-fits : (l : ℕ) (q : Request) → isPresent (setup .levels) l ≡ true → Fits setup l q → transferOf setup l q ≤ allowance setup
-  unfolding transferOf nextTime pathOf
+  pub transfer-fits : (l : ℕ) (q : Request) → isPresent (setup .levels) l ≡ true → Fits setup l q → transferOf setup l q ≤ allowanceOf setup
+  unfolding transferOf nextTime routeOf
   transfer-fits l q p f =
       let s = slave-facts-of q f .facts in
       time-most (levelOf (setup .levels) l .width) (slaveOf (setup .slaves) q .port) (level-facts-of setup framed l p .0 .width) (s .port) (q .address) (q .left)
-      (slaveOf (setup .slaves) q .time) (allowance setup) (quarter setup (slaveOf (setup .slaves) q) s)
+      (slaveOf (setup .slaves) q .time) (allowanceOf setup) (quarter setup (slaveOf (setup .slaves) q) s)

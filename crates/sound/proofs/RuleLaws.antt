@@ -11,14 +11,14 @@ use Rattle.basics.specs.Limits.{places}
 use Rattle.basics.proofs.Tests.{by-test}
 use Rattle.frame.specs.declared.Setup.{Setup}
 use Rattle.frame.specs.Frame.{isFramed}
-use Rattle.frame.specs.Allowance.{allowance, isWithin}
+use Rattle.frame.specs.Allowance.{allowanceOf, isWithin}
 use Rattle.channel.specs.declared.Phase.{Phase}
 use Rattle.channel.specs.declared.Phase.the-variants.{Arbitrating, Granted}
 use Rattle.channel.specs.declared.Asked.{Asked}
 use Rattle.channel.specs.declared.Asked.the-variants.{Never, At}
 use Rattle.channel.specs.declared.Channel.{Channel}
 use Rattle.channel.specs.Channel.{requestOf, changed, Shaped}
-use Rattle.channel.specs.Line.{isInactive, line, cleared, askedNow, timed, lineRule}
+use Rattle.channel.specs.Line.{isInactive, line, clearMarks, askedNow, setAsked, lineRule}
 use Rattle.channel.proofs.LineLaws.{cleared-on, no-marks}
 use Rattle.sound.specs.Request.{transferOf}
 use Rattle.sound.specs.Sound.{isInTime}
@@ -27,8 +27,8 @@ use Rattle.sound.proofs.RequestFacts.{fits-is, transfer-fits}
 
 module _ (setup : Setup) (ch : Channel) where
   -- with the marks removed, a settled channel stays settled
-  off-settled : Settled setup ch → line ch ≡ false → Settled setup (cleared ch)
-  unfolding cleared
+  off-settled : Settled setup ch → line ch ≡ false → Settled setup (clearMarks ch)
+  unfolding clearMarks
   off-settled s f =
       record {
         owner = λ o e. let g = s .owner o e in
@@ -46,12 +46,12 @@ module _ (setup : Setup) (ch : Channel) where
         asked = λ o t e a. absurd (false≢true (sym f ∙ s .asked o t e a .line));
       }
 
-  clear-settled : Settled setup ch → Settled setup (cleared ch)
+  clear-settled : Settled setup ch → Settled setup (clearMarks ch)
   clear-settled s = by-test (line ch) (λ t. rw (cleared-on ch t) s) (off-settled s)
 
   -- no mark is left while the line is not active
-  clear-marked : (l : ℕ) → l < places → isInactive (cleared ch .inactive) l ≡ true → line (cleared ch) ≡ true
-  unfolding cleared
+  clear-marked : (l : ℕ) → l < places → isInactive (clearMarks ch .inactive) l ≡ true → line (clearMarks ch) ≡ true
+  unfolding clearMarks
   clear-marked l k e =
       by-test (line ch)
       (λ t. rw t t)
@@ -87,11 +87,11 @@ module _ (setup : Setup) (framed : isFramed setup ≡ true) (ch : Channel) where
       (λ n.
       let r = s .request o (omega (arith, g .small)) (rw n) in
       let b = transfer-fits setup framed o (requestOf ch o) (r .0) (fits-is setup o (requestOf ch o) (r .1)) in
-      rw n (le-leb (transferOf setup o (requestOf ch o) + ch .clock) (t + allowance setup) (omega arith)))
+      rw n (le-leb (transferOf setup o (requestOf ch o) + ch .clock) (t + allowanceOf setup) (omega arith)))
 
-  timed-sound : Settled setup ch → ((l : ℕ) → l < places → isInactive (ch .inactive) l ≡ true → line ch ≡ true) → Sound setup (timed ch)
-  unfolding timed
-  timed-sound s m =
+  set-sound : Settled setup ch → ((l : ℕ) → l < places → isInactive (ch .inactive) l ≡ true → line ch ≡ true) → Sound setup (setAsked ch)
+  unfolding setAsked
+  set-sound s m =
       record {
         settled =
             record {
@@ -114,7 +114,7 @@ module _ (setup : Setup) (framed : isFramed setup ≡ true) (ch : Channel) where
 
 -- the line rule turns a settled channel into a sound one
 pub rule-sound : (setup : Setup) → isFramed setup ≡ true → (ch : Channel) → Settled setup ch → Sound setup (lineRule ch)
-rule-sound setup framed ch s = timed-sound setup framed (cleared ch) (clear-settled setup ch s) (clear-marked setup ch)
+rule-sound setup framed ch s = set-sound setup framed (clearMarks ch) (clear-settled setup ch s) (clear-marked setup ch)
 
 -- on a sound channel the asked time is already what the rule makes it
 same-asked : (setup : Setup) (ch : Channel) → Sound setup ch → (p : Phase) (a : Asked) → ch .phase ≡ p → ch .asked ≡ a
@@ -124,11 +124,11 @@ same-asked setup ch s (Granted o) (At t) e f = refl
 same-asked setup ch s (Granted o) Never e f = rw (s .quiet o e f)
 
 -- nothing is removed where no mark is left
-unmarked : (ch : Channel) → line ch ≡ false → ch .inactive ≡ replicate places false → cleared ch ≡ ch
-unfolding cleared
+unmarked : (ch : Channel) → line ch ≡ false → ch .inactive ≡ replicate places false → clearMarks ch ≡ ch
+unfolding clearMarks
 unmarked ch f e = rw f (ap (changed ch (ch .phase) (ch .asked) (ch .clock)) (sym e))
 
-same-cleared : (setup : Setup) (ch : Channel) → Shaped ch → Sound setup ch → cleared ch ≡ ch
+same-cleared : (setup : Setup) (ch : Channel) → Shaped ch → Sound setup ch → clearMarks ch ≡ ch
 same-cleared setup ch k s =
     by-test (line ch)
     (cleared-on ch)
@@ -137,11 +137,11 @@ same-cleared setup ch k s =
     (no-marks (ch .inactive) (k .inactive)
     (λ l h. by-test (isInactive (ch .inactive) l) (λ t. absurd (false≢true (sym f ∙ s .marked l h t))) (λ n. n))))
 
-same-timed : (setup : Setup) (ch : Channel) → Sound setup ch → timed ch ≡ ch
-unfolding timed
-same-timed setup ch s =
+same-set : (setup : Setup) (ch : Channel) → Sound setup ch → setAsked ch ≡ ch
+unfolding setAsked
+same-set setup ch s =
     ap (λ (a : Asked). changed ch (ch .phase) a (ch .clock) (ch .inactive)) (same-asked setup ch s (ch .phase) (ch .asked) refl refl)
 
 -- the line rule changes nothing on a sound channel
 pub rule-same : (setup : Setup) (ch : Channel) → Shaped ch → Sound setup ch → lineRule ch ≡ ch
-rule-same setup ch k s = ap timed (same-cleared setup ch k s) ∙ same-timed setup ch s
+rule-same setup ch k s = ap setAsked (same-cleared setup ch k s) ∙ same-set setup ch s

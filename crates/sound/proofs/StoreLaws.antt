@@ -6,8 +6,8 @@ use borrow.Author.Tests.{not-true, not-false}
 use Rattle.basics.proofs.Tests.{and-left, and-right}
 use Rattle.frame.specs.declared.LevelRows.{LevelRows}
 use Rattle.frame.specs.declared.Setup.{Setup}
-use Rattle.frame.specs.declared.Store.{Store}
-use Rattle.frame.specs.declared.Store.the-variants.{Broken, Length}
+use Rattle.frame.specs.declared.FramedStore.{FramedStore}
+use Rattle.frame.specs.declared.FramedStore.the-variants.{Broken, Length}
 use Rattle.frame.specs.Frame.{isMasterLength, levelsFit, slavesFit, isFramed}
 use Rattle.frame.specs.Find.{slaveStoreLength, storeIf}
 use Rattle.frame.proofs.SlaveLaws.{broken-by, length-by}
@@ -37,7 +37,7 @@ module _ (setup : Setup) (ch : Channel) where
   unfolding soundStore
   channel-broken sound s e = rw (sym s ∙ not-true sound e, and-false)
 
-  pub stored : (seats : Seats) (long sound : Bool) (store : Store) → AreSeats (setup .levels) seats → long ≡ isMasterLength (setup .master)
+  pub stored : (seats : Seats) (long sound : Bool) (store : FramedStore) → AreSeats (setup .levels) seats → long ≡ isMasterLength (setup .master)
       → not (seats .fits && long) ≡ false → sound ≡ isSound setup ch → not sound ≡ false
       → store ≡ storeIf (slavesFit (setup .slaves)) (setup .slaves) → store ≡ soundStore setup ch
   unfolding soundStore isFramed

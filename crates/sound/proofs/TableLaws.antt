@@ -21,8 +21,8 @@ use Rattle.frame.specs.declared.SlaveRows.{SlaveRows}
 use Rattle.frame.specs.declared.FoundSlave.the-variants.{Missing as NoSlave, Row as Slave}
 use Rattle.frame.specs.declared.FoundLevel.{FoundLevel}
 use Rattle.frame.specs.declared.FoundLevel.the-variants.{Missing, Row}
-use Rattle.frame.specs.Frame.{levelAt, slaveAt, present, levelRowFits}
-use Rattle.frame.specs.Find.{levelFound, levelRow, levelIndex, holds, slaveIndex}
+use Rattle.frame.specs.Frame.{levelAt, slaveAt, rowsPresent, levelRowFits}
+use Rattle.frame.specs.Find.{levelFound, levelRow, levelIndex, rowHolds, slaveIndex}
 use Rattle.frame.specs.Rows.{isFair, isLevel, levelOr, isPresent, levelOf, isSlave}
 use Rattle.frame.proofs.FrameLaws.{level-facts}
 use Rattle.frame.proofs.RowLaws.{slave-hit, slave-none}
@@ -32,7 +32,7 @@ use Rattle.channel.specs.declared.Asked.{Asked}
 use Rattle.channel.specs.declared.Asked.the-variants.{Never, At}
 use Rattle.channel.specs.declared.Channel.{Channel}
 use Rattle.channel.specs.declared.Request.{Request}
-use Rattle.channel.specs.Channel.{placeIn, requestOf}
+use Rattle.channel.specs.Channel.{ownerPlace, requestOf}
 use Rattle.channel.specs.Line.{line}
 use Rattle.channel.specs.Slave.{slaveFor}
 use Rattle.sound.specs.declared.Members.{Members}
@@ -70,7 +70,7 @@ use Rattle.sound.specs.inner.Tables.{
 -- the row of a level among those from row i on
 unfoldable pub foundFrom : LevelRows → ℕ → ℕ → FoundLevel
 foundFrom levels l i =
-    levelFound levels (firstFrom (λ (k : ℕ). eqb (levelAt levels k .level) l) i (present (levels .count) - i) noRow)
+    levelFound levels (firstFrom (λ (k : ℕ). eqb (levelAt levels k .level) l) i (rowsPresent (levels .count) - i) noRow)
 
 -- an array that tells what is asked of those rows
 abbrev pub TellsFrom : LevelRows → (FoundLevel → Bool) → ℕ → List Bool → Type 0
@@ -78,38 +78,38 @@ TellsFrom levels asked i table = (l : ℕ) → l < places → getD table l false
 
 module _ (levels : LevelRows) (asked : FoundLevel → Bool) (table : List Bool) where
   -- of no row it tells what is asked of a missing one
-  pub tells-none : (i : ℕ) → present (levels .count) ≤ i → ((l : ℕ) → l < places → getD table l false ≡ asked Missing)
+  pub tells-none : (i : ℕ) → rowsPresent (levels .count) ≤ i → ((l : ℕ) → l < places → getD table l false ≡ asked Missing)
       → TellsFrom levels asked i table
   unfolding foundFrom
-  tells-none i h e l k = rw (first-none _ i (present (levels .count)) noRow h) (e l k)
+  tells-none i h e l k = rw (first-none _ i (rowsPresent (levels .count)) noRow h) (e l k)
 
   -- one row more, of a level that has a place in it
-  pub tells-more : (i : ℕ) → i < present (levels .count) → length table ≡ places → levelAt levels i .level < places
+  pub tells-more : (i : ℕ) → i < rowsPresent (levels .count) → length table ≡ places → levelAt levels i .level < places
       → TellsFrom levels asked (i + 1) table
       → TellsFrom levels asked i (set table (levelAt levels i .level) (asked (Row (levelAt levels i))))
   unfolding foundFrom
   tells-more i h n s e l k =
       by-test (eqb (levelAt levels i .level) l)
       (λ t.
-      rw (first-hit _ i (present (levels .count)) noRow h t, lt-ltb i noRow (omega arith), ← eqb-true (levelAt levels i .level) l t)
+      rw (first-hit _ i (rowsPresent (levels .count)) noRow h t, lt-ltb i noRow (omega arith), ← eqb-true (levelAt levels i .level) l t)
       (getD-set-same table (levelAt levels i .level) _ false (omega arith)))
       (λ f.
-      rw (first-miss _ i (present (levels .count)) noRow h f)
+      rw (first-miss _ i (rowsPresent (levels .count)) noRow h f)
       (getD-set-other table (levelAt levels i .level) l _ false (λ q. eqb-false _ _ f (sym q)) ∙ e l k))
 
   -- one row more, of a level that has none
-  pub tells-same : (i : ℕ) → i < present (levels .count) → places ≤ levelAt levels i .level → TellsFrom levels asked (i + 1) table
+  pub tells-same : (i : ℕ) → i < rowsPresent (levels .count) → places ≤ levelAt levels i .level → TellsFrom levels asked (i + 1) table
       → TellsFrom levels asked i table
   unfolding foundFrom
   tells-same i h s e l k =
       by-test (eqb (levelAt levels i .level) l)
       (λ t. let q = eqb-true (levelAt levels i .level) l t in absurd (omega arith))
-      (λ f. rw (first-miss _ i (present (levels .count)) noRow h f) (e l k))
+      (λ f. rw (first-miss _ i (rowsPresent (levels .count)) noRow h f) (e l k))
 
   -- of all rows
   pub tells-all : TellsFrom levels asked 0 table → Tells levels asked table
   unfolding foundFrom levelRow levelIndex
-  tells-all e l k = rw (← sub-zero (present (levels .count))) (e l k)
+  tells-all e l k = rw (← sub-zero (rowsPresent (levels .count))) (e l k)
 
 -- a row that keeps the frame has a level with a place in the arrays
 pub fits-small : (levels : LevelRows) (i : ℕ) → levelRowFits levels i ≡ true → levelAt levels i .level < places
@@ -134,22 +134,22 @@ accepted-if setup l q =
     (λ u. rw (t, u)))
     (λ t. rw (t, and-false))
 
-module _ (setup : Setup) (present : Bool) (l : ℕ) (q : Request) (some : eqb (q .left) 0 ≡ false) where
+module _ (setup : Setup) (there : Bool) (l : ℕ) (q : Request) (some : eqb (q .left) 0 ≡ false) where
   pub open-held : (row : SlaveRow) (start : ℕ) → Slave row start ≡ slaveFor (setup .slaves) q
-      → openSound setup present l q ≡ restFits present (setup .master) q
+      → openSound setup there l q ≡ restFits there (setup .master) q
   open-held row start e = rw (some, accepted-if setup l q, ← e)
 
-  pub open-unheld : NoSlave ≡ slaveFor (setup .slaves) q → openSound setup present l q ≡ false
+  pub open-unheld : NoSlave ≡ slaveFor (setup .slaves) q → openSound setup there l q ≡ false
   open-unheld e = rw (some, accepted-if setup l q, ← e, and-false)
 
 -- the search for the slave row of a request has come to row i of n
 abbrev pub SearchedTo : SlaveRows → Request → ℕ → ℕ → Type 0
 SearchedTo slaves q i n =
-    firstFrom (λ (k : ℕ). holds (slaveAt slaves k) (q .space) (q .address) (q .left)) i (n - i) noRow
+    firstFrom (λ (k : ℕ). rowHolds (slaveAt slaves k) (q .space) (q .address) (q .left)) i (n - i) noRow
     ≡ slaveIndex slaves (q .space) (q .address) (q .left)
 
-pub searched-none : (slaves : SlaveRows) (s a w n : ℕ) → n ≡ present (slaves .count)
-    → firstFrom (λ (k : ℕ). holds (slaveAt slaves k) s a w) 0 (n - 0) noRow ≡ slaveIndex slaves s a w
+pub searched-none : (slaves : SlaveRows) (s a w n : ℕ) → n ≡ rowsPresent (slaves .count)
+    → firstFrom (λ (k : ℕ). rowHolds (slaveAt slaves k) s a w) 0 (n - 0) noRow ≡ slaveIndex slaves s a w
 unfolding slaveIndex
 searched-none slaves s a w n e = rw (sub-zero n, e)
 
@@ -170,28 +170,28 @@ module _ (setup : Setup) (table : List Bool) (rest : ℕ → Request) (l : ℕ) 
         sym of-level ∙ open-unheld setup (getD table l false) l q e (slave-none (setup .slaves) (q .space) (q .address) (q .left) i n searched-by h)
 
     pub turn-held : eqb (q .left) 0 ≡ false → i < n → n ≤ rowsMost
-        → holds (slaveAt (setup .slaves) i) (q .space) (q .address) (q .left) ≡ true
+        → rowHolds (slaveAt (setup .slaves) i) (q .space) (q .address) (q .left) ≡ true
         → openSound setup (getD table l false) l (rest l) ≡ restFits (getD table l false) (setup .master) q
     turn-held e h k t =
         sym of-level
         ∙ open-held setup (getD table l false) l q e _ _ (slave-hit (setup .slaves) (q .space) (q .address) (q .left) i n searched-by h k t)
 
-    pub turn-on : i < n → holds (slaveAt (setup .slaves) i) (q .space) (q .address) (q .left) ≡ false
+    pub turn-on : i < n → rowHolds (slaveAt (setup .slaves) i) (q .space) (q .address) (q .left) ≡ false
         → SearchedTo (setup .slaves) (rest l) (i + 1) n
     turn-on h f =
         sym (first-miss _ i n noRow h
-        (subst (λ (x : Request). holds (slaveAt (setup .slaves) i) (x .space) (x .address) (x .left) ≡ false) told f))
+        (subst (λ (x : Request). rowHolds (slaveAt (setup .slaves) i) (x .space) (x .address) (x .left) ≡ false) told f))
         ∙ searched
 
 -- a sound owner has a place
-place-by : (present : List Bool) (left : List ℕ) (inactive : List Bool) (p : Phase) → ownerFits present left inactive p ≡ true
-    → placeIn p < places
-place-by present left inactive Arbitrating e = omega arith
-place-by present left inactive (Granted o) e = let h = leb-true o systemMaster (and-left _ _ e) in omega arith
+place-by : (there : List Bool) (left : List ℕ) (inactive : List Bool) (p : Phase) → ownerFits there left inactive p ≡ true
+    → ownerPlace p < places
+place-by there left inactive Arbitrating e = omega arith
+place-by there left inactive (Granted o) e = let h = leb-true o systemMaster (and-left _ _ e) in omega arith
 
-pub owner-place : (present : List Bool) (left : List ℕ) (inactive : List Bool) (phase : Phase) (owner : Bool) (place : ℕ)
-    → owner ≡ ownerFits present left inactive phase → not owner ≡ false → place ≡ placeIn phase → place < places
-owner-place present left inactive phase owner place o e p = rw p (place-by present left inactive phase (sym o ∙ not-false owner e))
+pub owner-place : (there : List Bool) (left : List ℕ) (inactive : List Bool) (phase : Phase) (owner : Bool) (place : ℕ)
+    → owner ≡ ownerFits there left inactive phase → not owner ≡ false → place ≡ ownerPlace phase → place < places
+owner-place there left inactive phase owner place o e p = rw p (place-by there left inactive phase (sym o ∙ not-false owner e))
 
 module _ (setup : Setup) (ch : Channel) (members : Members) (tells : AreMembers (setup .levels) members) where
   -- the owner
@@ -234,7 +234,7 @@ module _ (setup : Setup) (ch : Channel) (members : Members) (tells : AreMembers 
       all-ext _ _ places (λ l k. rw (tells .fair l k, fair-row active (levelRow (setup .levels) l)))
 
   -- the asked time
-  asked-by : (active : Bool) (p : Phase) (a : Asked) → askedFits setup (requestOf ch (placeIn p)) (ch .clock) active p a ≡ askedSound setup ch active p a
+  asked-by : (active : Bool) (p : Phase) (a : Asked) → askedFits setup (requestOf ch (ownerPlace p)) (ch .clock) active p a ≡ askedSound setup ch active p a
   unfolding isAskedAt
   asked-by active Arbitrating Never = refl
   asked-by active Arbitrating (At t) = refl
@@ -242,7 +242,7 @@ module _ (setup : Setup) (ch : Channel) (members : Members) (tells : AreMembers 
   asked-by active (Granted o) (At t) = refl
 
   pub asked-fits : (active : Bool)
-      → askedFits setup (requestOf ch (placeIn (ch .phase))) (ch .clock) active (ch .phase) (ch .asked) ≡ isAskedSound setup ch active
+      → askedFits setup (requestOf ch (ownerPlace (ch .phase))) (ch .clock) active (ch .phase) (ch .asked) ≡ isAskedSound setup ch active
   unfolding isAskedSound
   asked-fits active = asked-by active (ch .phase) (ch .asked)
 
@@ -257,7 +257,7 @@ module _ (setup : Setup) (ch : Channel) (members : Members) (tells : AreMembers 
       → requests ≡ requestsFit setup (members .present) (requestOf ch)
       → active ≡ line ch → marks ≡ areMarked (members .fair) (ch .inactive) active
       → clock ≡ isClockSound ch
-      → place ≡ placeIn (ch .phase) → rest ≡ requestOf ch place → time ≡ askedFits setup rest (ch .clock) active (ch .phase) (ch .asked)
+      → place ≡ ownerPlace (ch .phase) → rest ≡ requestOf ch place → time ≡ askedFits setup rest (ch .clock) active (ch .phase) (ch .asked)
       → (requests && (marks && (clock && time))) ≡ isSound setup ch
   unfolding isSound
   clauses-sound owner requests active marks clock time place rest o e r l m k p q t =

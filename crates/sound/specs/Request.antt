@@ -11,7 +11,7 @@ use Rattle.frame.specs.declared.Setup.{Setup}
 use Rattle.frame.specs.Rows.{isSlave}
 use Rattle.channel.specs.declared.Request.{Request}
 use Rattle.channel.specs.Slave.{slaveFor}
-use Rattle.act.specs.Cycle.{pathOf, nextTime}
+use Rattle.act.specs.Cycle.{routeOf, nextTime}
 
 -- "3: post: length 0 or above 4,096, direction or space above 1"
 unfoldable pub isInRange : Request → Bool
@@ -32,4 +32,4 @@ requestVerdict setup l q =
 
 -- the time of the transfer of a level that holds the next byte of a request: the running or next one
 unfoldable pub transferOf : Setup → ℕ → Request → ℕ
-transferOf setup l q = nextTime (pathOf setup l q) q
+transferOf setup l q = nextTime (routeOf setup l q) q

@@ -8,11 +8,11 @@ use Rattle.basics.specs.Limits.{places, systemMaster, clockLimit}
 use Rattle.basics.specs.Scan.{allBelow}
 use Rattle.frame.specs.declared.LevelRows.{LevelRows}
 use Rattle.frame.specs.declared.Setup.{Setup}
-use Rattle.frame.specs.declared.Store.{Store}
+use Rattle.frame.specs.declared.FramedStore.{FramedStore}
 use Rattle.frame.specs.Frame.{isFramed}
 use Rattle.frame.specs.Find.{storeIf}
 use Rattle.frame.specs.Rows.{isFair, isPresent, levelOf}
-use Rattle.frame.specs.Allowance.{allowance, isWithin}
+use Rattle.frame.specs.Allowance.{allowanceOf, isWithin}
 use Rattle.channel.specs.declared.Phase.{Phase}
 use Rattle.channel.specs.declared.Phase.the-variants.{Arbitrating, Granted}
 use Rattle.channel.specs.declared.Asked.{Asked}
@@ -65,7 +65,7 @@ isClockSound ch = leb (ch .clock) clockLimit
 -- "an asked time .. from which the owner's running or next transfer would end more than 7,800 later; for 15 without a request, an asked time other
 -- than the clock"
 unfoldable pub isInTime : Setup → ℕ → Request → ℕ → ℕ → Bool
-isInTime setup owner q clock t = cond (eqb (q .left) 0) (eqb t clock) (isWithin (allowance setup) (transferOf setup owner q) clock t)
+isInTime setup owner q clock t = cond (eqb (q .left) 0) (eqb t clock) (isWithin (allowanceOf setup) (transferOf setup owner q) clock t)
 
 -- "while granted, an asked time without an active line ..; an asked time later than the clock, or .."
 unfoldable pub isAskedAt : Setup → Channel → Bool → ℕ → ℕ → Bool
@@ -91,5 +91,5 @@ isSound setup ch =
     && isAskedSound setup ch (line ch))))
 
 -- "the slave store, as long as all rows together": its length, of a set-up that keeps the frame and a channel that is sound, which meet no 9
-unfoldable pub soundStore : Setup → Channel → Store
+unfoldable pub soundStore : Setup → Channel → FramedStore
 soundStore setup ch = storeIf (isFramed setup && isSound setup ch) (setup .slaves)

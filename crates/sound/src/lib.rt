@@ -10,9 +10,9 @@ use channel::Channel;
 use channel::Phase;
 use channel::Request;
 use frame::FoundSlave;
+use frame::FramedStore;
 use frame::LevelRows;
 use frame::Setup;
-use frame::Store;
 use refusal::Refusal;
 use refusal::Verdict;
 ghost use mathlib.Core.Path.{_≡_};
@@ -396,7 +396,7 @@ fn are_clauses_sound<'a>(
     let requests = are_requests_sound(setup, present, direction, space, address, left, offset);
     let active = channel::line_active(left, inactive, phase);
     let marks = are_marks_sound(fair, inactive, active);
-    let owner = channel::place_of(phase);
+    let owner = channel::owner_place(phase);
     let rest = request_at(direction, space, address, left, offset, owner);
     let time = is_asked_sound(setup, rest, clock, active, phase, asked);
     requests & (marks & (is_clock_sound(clock) & time))
@@ -428,13 +428,13 @@ pub fn is_sound(setup: Setup, channel: Channel) -> bool
 
 // How long the slave store of a set-up that keeps the frame is, while the channel is sound. The level rows are copied, and
 // gone through, once for both tests: every step pays for them.
-pub fn sound_store(setup: Setup, channel: Channel) -> Store
+pub fn sound_store(setup: Setup, channel: Channel) -> FramedStore
     ensures { λ r. ⌜ r ≡ soundStore setup channel ⌝ }
 {
     let levels = setup.levels;
     let seats = seats_of(levels);
     if !(seats.fits & frame::is_master_length(setup.master)) {
-        return Store::Broken;
+        return FramedStore::Broken;
     }
     let phase = channel.phase;
     let asked = channel.asked;
@@ -453,8 +453,8 @@ pub fn sound_store(setup: Setup, channel: Channel) -> Store
         &channel.offset,
     );
     if !sound {
-        return Store::Broken;
+        return FramedStore::Broken;
     }
     let slaves = setup.slaves;
-    frame::slave_store(slaves)
+    frame::fitting_store(slaves)
 }

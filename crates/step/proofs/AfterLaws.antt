@@ -9,34 +9,34 @@ use Rattle.channel.specs.declared.Asked.{Asked}
 use Rattle.channel.specs.declared.Request.{Request}
 use Rattle.channel.specs.Channel.{noRequest}
 use Rattle.frame.specs.Rows.{hasBurst}
-use Rattle.act.specs.declared.Path.{Path}
+use Rattle.act.specs.declared.Route.{Route}
 use Rattle.act.specs.declared.Ending.the-variants.{Kept}
 use Rattle.act.specs.Cycle.{cycleBytes, restAfter, cycleOf, isLate, isLeaving, releasedBy, endingOf, nextTime}
-use Rattle.step.specs.inner.Machine.{isInside, leavesAt, afterOf}
+use Rattle.step.specs.inner.Machine.{isInside, leavesAt, afterCycle}
 
-module _ (path : Path) (asked : Asked) (clock : ℕ) (rest : Request) (some : 0 < rest .left) where
+module _ (route : Route) (asked : Asked) (clock : ℕ) (rest : Request) (some : 0 < rest .left) where
   open-rest : eqb (rest .left) 0 ≡ false
   open-rest = ne-eqb (rest .left) 0 (λ e. omega (arith, e, some))
 
   -- "Nothing is released inside a transfer."
-  pub leaves-inside : isInside (path .width) (rest .address) ≡ true → false ≡ leavesAt path asked clock rest
+  pub leaves-inside : isInside (route .width) (rest .address) ≡ true → false ≡ leavesAt route asked clock rest
   unfolding leavesAt isLeaving
-  leaves-inside e = rw (open-rest, not-true (eqb (rest .address % path .width) 0) e)
+  leaves-inside e = rw (open-rest, not-true (eqb (rest .address % route .width) 0) e)
 
-  module _ (end : isInside (path .width) (rest .address) ≡ false) where
-    pub leaves-single : hasBurst (path .options) ≡ false → true ≡ leavesAt path asked clock rest
+  module _ (end : isInside (route .width) (rest .address) ≡ false) where
+    pub leaves-single : hasBurst (route .options) ≡ false → true ≡ leavesAt route asked clock rest
     unfolding leavesAt isLeaving
-    leaves-single e = rw (open-rest, not-false (eqb (rest .address % path .width) 0) end, e)
+    leaves-single e = rw (open-rest, not-false (eqb (rest .address % route .width) 0) end, e)
 
-    pub leaves-late : hasBurst (path .options) ≡ true → isLate path asked clock (nextTime path rest) ≡ leavesAt path asked clock rest
+    pub leaves-late : hasBurst (route .options) ≡ true → isLate route asked clock (nextTime route rest) ≡ leavesAt route asked clock rest
     unfolding leavesAt isLeaving
-    leaves-late e = rw (open-rest, not-false (eqb (rest .address % path .width) 0) end, e)
+    leaves-late e = rw (open-rest, not-false (eqb (rest .address % route .width) 0) end, e)
 
-module _ (path : Path) (asked : Asked) (clock : ℕ) (q : Request) (n : ℕ) (bytes : n ≡ cycleBytes path q) where
+module _ (route : Route) (asked : Asked) (clock : ℕ) (q : Request) (n : ℕ) (bytes : n ≡ cycleBytes route q) where
   -- a request that is done
-  pub after-done : n ≡ q .left → record { rest = noRequest; ending = releasedBy (path .options) asked clock } ≡ afterOf path asked clock q
-  unfolding afterOf cycleOf restAfter endingOf isLeaving
-  after-done e = rw (eq-eqb (cycleBytes path q) (q .left) (sym bytes ∙ e))
+  pub after-done : n ≡ q .left → record { rest = noRequest; ending = releasedBy (route .options) asked clock } ≡ afterCycle route asked clock q
+  unfolding afterCycle cycleOf restAfter endingOf isLeaving
+  after-done e = rw (eq-eqb (cycleBytes route q) (q .left) (sym bytes ∙ e))
 
   -- one that goes on
   pub some-left : (rest : Request) → rest ≡ restAfter q n → (n ≡ q .left → ⊥) → 0 < rest .left
@@ -44,14 +44,14 @@ module _ (path : Path) (asked : Asked) (clock : ℕ) (q : Request) (n : ℕ) (by
   some-left rest is e = rw (is, ne-eqb n (q .left) e) (omega (arith, bytes, e))
 
   module _ (rest : Request) (is : rest ≡ restAfter q n) where
-    by-bytes : rest ≡ restAfter q (cycleBytes path q)
+    by-bytes : rest ≡ restAfter q (cycleBytes route q)
     by-bytes = is ∙ ap (restAfter q) bytes
 
-    pub after-leaving : leavesAt path asked clock rest ≡ true
-        → record { rest = rest; ending = releasedBy (path .options) asked clock } ≡ afterOf path asked clock q
-    unfolding afterOf cycleOf endingOf leavesAt isLeaving
+    pub after-leaving : leavesAt route asked clock rest ≡ true
+        → record { rest = rest; ending = releasedBy (route .options) asked clock } ≡ afterCycle route asked clock q
+    unfolding afterCycle cycleOf endingOf leavesAt isLeaving
     after-leaving e = let f = rw by-bytes at e in rw (by-bytes, f)
 
-    pub after-staying : leavesAt path asked clock rest ≡ false → record { rest = rest; ending = Kept } ≡ afterOf path asked clock q
-    unfolding afterOf cycleOf endingOf leavesAt isLeaving
+    pub after-staying : leavesAt route asked clock rest ≡ false → record { rest = rest; ending = Kept } ≡ afterCycle route asked clock q
+    unfolding afterCycle cycleOf endingOf leavesAt isLeaving
     after-staying e = let f = rw by-bytes at e in rw (by-bytes, f)

@@ -10,10 +10,10 @@ use lib.Dec.{eqb, leb}
 use lib.Seq.{paste, paste-zero, paste-suc}
 use borrow.Author.Tests.{eqb-true, leb-true}
 use Rattle.basics.proofs.Tests.{and-left, and-right}
-use Rattle.cycle.specs.Cycle.{isWidth, isPort, narrower, cycleLength, tabledLength, transferLength, countOf, transferTime}
+use Rattle.cycle.specs.Cycle.{isWidth, isPort, narrowerOf, cycleLength, tabledLength, transferLength, countOf, transferTime}
 use Rattle.cycle.proofs.Widths.{Pair, two-one, two-two, four-one, four-two, four-four, paired}
 use Rattle.channel.specs.declared.Request.{Request}
-use Rattle.act.specs.declared.Path.{Path}
+use Rattle.act.specs.declared.Route.{Route}
 use Rattle.act.specs.Cycle.{cycleBytes, nextTime}
 use Rattle.step.specs.Step.{Way}
 
@@ -46,25 +46,25 @@ next-one : (w a r : ℕ) → Pair w 1 → a % w ≡ 0 → 0 < r → min r w ≡ 
 next-one _ a r two-one e h = omega arith
 next-one _ a r four-one e h = omega arith
 
-module _ (path : Path) (q : Request) (way : Way path q) where
+module _ (route : Route) (q : Request) (way : Way route q) where
   abbrev narrow : ℕ
-  narrow = narrower (path .width) (path .port)
+  narrow = narrowerOf (route .width) (route .port)
 
-  pair : Pair (path .width) narrow
-  pair = paired (path .width) (path .port) (way .width) (way .port)
+  pair : Pair (route .width) narrow
+  pair = paired (route .width) (route .port) (way .width) (way .port)
 
-  pub whole-bytes : {n : ℕ} → n ≡ narrow → (leb 4 (q .left) && eqb (q .address % 4) 0) ≡ true → n ≡ cycleBytes path q
+  pub whole-bytes : {n : ℕ} → n ≡ narrow → (leb 4 (q .left) && eqb (q .address % 4) 0) ≡ true → n ≡ cycleBytes route q
   whole-bytes e t =
       e
-      ∙ whole-block (path .width) narrow (q .address) (q .left) pair (eqb-true (q .address % 4) 0 (and-right (leb 4 (q .left)) _ t))
+      ∙ whole-block (route .width) narrow (q .address) (q .left) pair (eqb-true (q .address % 4) 0 (and-right (leb 4 (q .left)) _ t))
       (leb-true 4 (q .left) (and-left (leb 4 (q .left)) _ t))
 
-  pub single-byte : narrow ≡ 1 → 1 ≡ cycleBytes path q
+  pub single-byte : narrow ≡ 1 → 1 ≡ cycleBytes route q
   single-byte e = rw e (omega (arith, way .some))
 
-  pub table-bytes : {n m : ℕ} → m ≡ narrow → n ≡ tabledLength m (q .address) (q .left) → n ≡ cycleBytes path q
+  pub table-bytes : {n m : ℕ} → m ≡ narrow → n ≡ tabledLength m (q .address) (q .left) → n ≡ cycleBytes route q
   unfolding tabledLength
-  table-bytes e t = t ∙ rw (e, pair-port (path .width) narrow pair)
+  table-bytes e t = t ∙ rw (e, pair-port (route .width) narrow pair)
 
 -- a Q that is neither 4 nor 2 is 1
 one-of : (w q : ℕ) → Pair w q → (q ≡ 4 → ⊥) → (q ≡ 2 → ⊥) → q ≡ 1
@@ -74,28 +74,28 @@ one-of _ _ four-one f t = refl
 one-of _ _ four-two f t = absurd (t refl)
 one-of _ _ four-four f t = absurd (f refl)
 
-pub one-left : (w p : ℕ) {n : ℕ} → isWidth w ≡ true → isPort p ≡ true → n ≡ narrower w p → (n ≡ 4 → ⊥) → (n ≡ 2 → ⊥) → n ≡ 1
+pub one-left : (w p : ℕ) {n : ℕ} → isWidth w ≡ true → isPort p ≡ true → n ≡ narrowerOf w p → (n ≡ 4 → ⊥) → (n ≡ 2 → ⊥) → n ≡ 1
 one-left w p x y e f t = one-of w _ (rw (← e) at (paired w p x y)) f t
 
 -- the time of the next transfer
-module _ (path : Path) (rest : Request) (w : isWidth (path .width) ≡ true) (p : isPort (path .port) ≡ true)
-    (aligned : rest .address % path .width ≡ 0) (some : 0 < rest .left) where
-  of-pair : (q : ℕ) → narrower (path .width) (path .port) ≡ q → Pair (path .width) q
-  of-pair q e = rw e at (paired (path .width) (path .port) w p)
+module _ (route : Route) (rest : Request) (w : isWidth (route .width) ≡ true) (p : isPort (route .port) ≡ true)
+    (aligned : rest .address % route .width ≡ 0) (some : 0 < rest .left) where
+  of-pair : (q : ℕ) → narrowerOf (route .width) (route .port) ≡ q → Pair (route .width) q
+  of-pair q e = rw e at (paired (route .width) (route .port) w p)
 
-  pub time-four : narrower (path .width) (path .port) ≡ 4 → path .time ≡ nextTime path rest
+  pub time-four : narrowerOf (route .width) (route .port) ≡ 4 → route .time ≡ nextTime route rest
   unfolding nextTime transferTime
-  time-four e = rw (e, ← next-four (path .width) (rest .address) (rest .left) (of-pair 4 e) aligned some) (omega arith)
+  time-four e = rw (e, ← next-four (route .width) (rest .address) (rest .left) (of-pair 4 e) aligned some) (omega arith)
 
-  pub time-two : {n : ℕ} → narrower (path .width) (path .port) ≡ 2 → n ≡ min (rest .left) (path .width)
-      → (n + 1) / 2 * path .time ≡ nextTime path rest
+  pub time-two : {n : ℕ} → narrowerOf (route .width) (route .port) ≡ 2 → n ≡ min (rest .left) (route .width)
+      → (n + 1) / 2 * route .time ≡ nextTime route rest
   unfolding nextTime transferTime
-  time-two e m = rw (e, m, next-two (path .width) (rest .address) (rest .left) (of-pair 2 e) aligned some)
+  time-two e m = rw (e, m, next-two (route .width) (rest .address) (rest .left) (of-pair 2 e) aligned some)
 
-  pub time-one : {n : ℕ} → narrower (path .width) (path .port) ≡ 1 → n ≡ min (rest .left) (path .width) → n * path .time
-      ≡ nextTime path rest
+  pub time-one : {n : ℕ} → narrowerOf (route .width) (route .port) ≡ 1 → n ≡ min (rest .left) (route .width) → n * route .time
+      ≡ nextTime route rest
   unfolding nextTime transferTime
-  time-one e m = rw (e, m, next-one (path .width) (rest .address) (rest .left) (of-pair 1 e) aligned some)
+  time-one e m = rw (e, m, next-one (route .width) (rest .address) (rest .left) (of-pair 1 e) aligned some)
 
 -- bytes stored one by one
 module _ (d : List ℕ) (at : ℕ) (s : List ℕ) where

@@ -15,7 +15,7 @@ use Rattle.refusal.specs.declared.Verdict.the-variants.{Accepted, Refused as No
 use Rattle.frame.specs.declared.Setup.{Setup}
 use Rattle.channel.specs.declared.Channel.{Channel}
 use Rattle.channel.specs.Channel.{requestOf}
-use Rattle.act.specs.Cycle.{pathOf}
+use Rattle.act.specs.Cycle.{routeOf}
 use Rattle.tally.specs.declared.Tally.{Tally}
 use Rattle.step.specs.declared.Carry.{Carry}
 use Rattle.step.specs.declared.Plan.{Plan}
@@ -24,7 +24,7 @@ use Rattle.step.specs.Plan.{actPlan, readyVerdict, planBy, planOf}
 use Rattle.step.specs.Step.{
   Ready,
   Room,
-  hasRoom,
+  carryFits,
   noCarry,
   carryBy,
   stepOf,
@@ -40,16 +40,16 @@ use Rattle.step.specs.inner.Machine.{decisionBy, refusedDecision}
 use Rattle.step.proofs.PlanLaws.{planned-roomy, ready-is, carry-room}
 
 module _ (c : Carry) (s m : ℕ) where
-  pub no-slave : s < c .bytes → false ≡ hasRoom c s m
+  pub no-slave : s < c .bytes → false ≡ carryFits c s m
   no-slave h = rw (lt-leb (c .place + c .bytes) s (omega (arith, h)))
 
-  pub no-master : m < c .bytes → false ≡ hasRoom c s m
+  pub no-master : m < c .bytes → false ≡ carryFits c s m
   no-master h = rw (lt-leb (c .offset + c .bytes) m (omega (arith, h)), and-false)
 
-  pub both-room : c .bytes ≤ s → c .bytes ≤ m → (leb (c .place) (s - c .bytes) && leb (c .offset) (m - c .bytes)) ≡ hasRoom c s m
+  pub both-room : c .bytes ≤ s → c .bytes ≤ m → (leb (c .place) (s - c .bytes) && leb (c .offset) (m - c .bytes)) ≡ carryFits c s m
   both-room h k = rw (less-leb (c .place) (c .bytes) s h, less-leb (c .offset) (c .bytes) m k)
 
-  pub room-is : hasRoom c s m ≡ true → Room c s m
+  pub room-is : carryFits c s m ≡ true → Room c s m
   room-is e =
       record {
         slave = leb-true (c .place + c .bytes) s (and-left _ _ e);
@@ -82,7 +82,7 @@ module _ (setup : Setup) (ch : Channel) (slave master : List ℕ) where
   by-plan r (Leave o) e = nothing
   by-plan r (Cycle o) e =
       let x = planned-roomy setup ch o (length slave) (length master) r e in
-      carry-room (pathOf setup o (requestOf ch o)) (requestOf ch o) (length slave) (length master) x
+      carry-room (routeOf setup o (requestOf ch o)) (requestOf ch o) (length slave) (length master) x
 
   pub act-room : Ready setup ch (length slave) (length master) → Room (carryBy setup ch (actPlan setup ch)) (length slave) (length master)
   act-room r = by-plan r (actPlan setup ch) refl

@@ -7,7 +7,7 @@ use native.Mathlib.Omega.{arith}
 use borrow.Author.Tests.{eqb-true, eqb-false}
 use lib.Dec.{eqb}
 use Rattle.basics.proofs.Tests.{by-test}
-use Rattle.cycle.specs.Cycle.{isWidth, isPort, narrower, isTransferEnd, transferTime}
+use Rattle.cycle.specs.Cycle.{isWidth, isPort, narrowerOf, isTransferEnd, transferTime}
 use Rattle.cycle.proofs.CountLaws.{length-some}
 use Rattle.cycle.proofs.Widths.{port-some, width-some}
 use Rattle.cycle.proofs.TransferLaws.{time-left, time-ended}
@@ -22,15 +22,15 @@ use Rattle.frame.specs.Rows.{isPresent, slaveOr, startOr}
 use Rattle.channel.specs.Slave.{slaveFor, slaveOf, startOf}
 use Rattle.sound.specs.Request.{transferOf}
 use Rattle.sound.proofs.RequestFacts.{Fits, slave-facts-of}
-use Rattle.act.specs.declared.Path.{Path}
-use Rattle.act.specs.Cycle.{Cycle, pathOf, cycleBytes, restAfter, nextTime, cycleOf}
+use Rattle.act.specs.declared.Route.{Route}
+use Rattle.act.specs.Cycle.{Cycle, routeOf, cycleBytes, restAfter, nextTime, cycleOf}
 
 -- "The i-th byte goes with address + i and offset + i.": the request from its n-th byte on
 abbrev pub further : Request → ℕ → Request
 further q n =
     record { direction = q .direction; space = q .space; address = q .address + n; left = q .left - n; offset = q .offset + n }
 
--- a cycle moves some of the bytes that are left, from the next one on, and what it leaves is the request behind them, or nothing
+-- a cycle moves some of the bytes that are left, from the next one on, and what it leaves is the request after them, or nothing
 pub record Leaves (q : Request) (c : Cycle) : Type 0 where
   pub address : c .address ≡ q .address
   pub some : 0 < c .bytes
@@ -46,15 +46,15 @@ pub record Takes (setup : Setup) (l : ℕ) (q : Request) (c : Cycle) : Type 0 wh
   pub next : 0 < c .rest .left → transferOf setup l (c .rest) ≡ c .next
 
 -- the words of a cycle
-cycle-time : (path : Path) (q : Request) → cycleOf path q .time ≡ path .time
+cycle-time : (route : Route) (q : Request) → cycleOf route q .time ≡ route .time
 unfolding cycleOf
-cycle-time path q = refl
+cycle-time route q = refl
 
-next-by : (path : Path) (q : Request) → cycleOf path q .next ≡ nextTime path (cycleOf path q .rest)
+next-by : (route : Route) (q : Request) → cycleOf route q .next ≡ nextTime route (cycleOf route q .rest)
 unfolding cycleOf
-next-by path q = refl
+next-by route q = refl
 
--- what is left after so many bytes
+-- what is left after n bytes
 rest-left : (q : Request) (n : ℕ) → n ≤ q .left → restAfter q n .left ≡ q .left - n
 unfolding restAfter
 rest-left q n h = by-test (eqb n (q .left)) (λ t. rw t (omega (arith, eqb-true n (q .left) t))) (λ f. rw f)
@@ -67,15 +67,15 @@ rest-onward : (q : Request) (n : ℕ) → n < q .left → restAfter q n ≡ furt
 unfolding restAfter
 rest-onward q n h = by-test (eqb n (q .left)) (λ t. absurd (omega (arith, eqb-true n (q .left) t))) (λ f. rw f)
 
-module _ (path : Path) (q : Request) (width : isWidth (path .width) ≡ true) (port : isPort (path .port) ≡ true) (some : 0 < q .left) where
-  bytes-some : 0 < cycleBytes path q
-  bytes-some = length-some (narrower (path .width) (path .port)) (q .address) (q .left)
-      (omega (arith, width-some (path .width) width .0, port-some (path .port) port .0)) some
+module _ (route : Route) (q : Request) (width : isWidth (route .width) ≡ true) (port : isPort (route .port) ≡ true) (some : 0 < q .left) where
+  bytes-some : 0 < cycleBytes route q
+  bytes-some = length-some (narrowerOf (route .width) (route .port)) (q .address) (q .left)
+      (omega (arith, width-some (route .width) width .0, port-some (route .port) port .0)) some
 
-  pub leaves : Leaves q (cycleOf path q)
+  pub leaves : Leaves q (cycleOf route q)
   unfolding cycleOf
   leaves =
-      let n = cycleBytes path q in
+      let n = cycleBytes route q in
       let k : n ≤ q .left = omega arith in
       let left = rest-left q n k in
       record {
@@ -89,31 +89,31 @@ module _ (path : Path) (q : Request) (width : isWidth (path .width) ≡ true) (p
       }
 
   -- the transfer's end and its time are those of the next byte, which the rest tells where there is one
-  ends-is : cycleOf path q .ends ≡ isTransferEnd (path .width) (q .address + cycleBytes path q) (q .left - cycleBytes path q)
+  ends-is : cycleOf route q .ends ≡ isTransferEnd (route .width) (q .address + cycleBytes route q) (q .left - cycleBytes route q)
   unfolding cycleOf restAfter
   ends-is =
-      let n = cycleBytes path q in
+      let n = cycleBytes route q in
       by-test (eqb n (q .left))
       (λ t. let z : q .left - n ≡ 0 = omega (arith, eqb-true n (q .left) t) in rw (t, z))
       (λ f. rw f)
 
-  next-is : cycleOf path q .ends ≡ false → cycleOf path q .next
-      ≡ transferTime (path .width) (path .port) (path .time) (q .address + cycleBytes path q) (q .left - cycleBytes path q)
+  next-is : cycleOf route q .ends ≡ false → cycleOf route q .next
+      ≡ transferTime (route .width) (route .port) (route .time) (q .address + cycleBytes route q) (q .left - cycleBytes route q)
   unfolding cycleOf restAfter nextTime
   next-is e =
-      let n = cycleBytes path q in
+      let n = cycleBytes route q in
       by-test (eqb n (q .left)) (λ t. absurd (false≢true (sym (rw t at e)))) (λ f. rw f)
 
-  transfer-is : nextTime path q ≡ cycleOf path q .time + cond (cycleOf path q .ends) 0 (cycleOf path q .next)
+  transfer-is : nextTime route q ≡ cycleOf route q .time + cond (cycleOf route q .ends) 0 (cycleOf route q .next)
   unfolding nextTime
   transfer-is =
-      by-test (cycleOf path q .ends)
+      by-test (cycleOf route q .ends)
       (λ t.
-      rw (cycle-time path q, t, add-zero (path .time))
-      (time-ended (path .width) (path .port) width port (q .address) (q .left) (path .time) some (sym ends-is ∙ t)))
+      rw (cycle-time route q, t, add-zero (route .time))
+      (time-ended (route .width) (route .port) width port (q .address) (q .left) (route .time) some (sym ends-is ∙ t)))
       (λ f.
-      rw (cycle-time path q, f, next-is f)
-      (time-left (path .width) (path .port) width port (q .address) (q .left) (path .time) (sym ends-is ∙ f)))
+      rw (cycle-time route q, f, next-is f)
+      (time-left (route .width) (route .port) width port (q .address) (q .left) (route .time) (sym ends-is ∙ f)))
 
 -- a request that fits, and any cycle of it
 module _ (setup : Setup) (framed : isFramed setup ≡ true) {k : ℕ} (q : Request) (fits : Fits setup k q) (c : Cycle)
@@ -139,9 +139,9 @@ module _ (setup : Setup) (framed : isFramed setup ≡ true) {k : ℕ} (q : Reque
   rest-start h = ap startOr (rest-found h)
 
   -- so it goes the same way
-  pub rest-path : (l : ℕ) → 0 < c .rest .left → pathOf setup l (c .rest) ≡ pathOf setup l q
-  unfolding pathOf
-  rest-path l h = rw (rest-slave h, rest-start h)
+  pub rest-route : (l : ℕ) → 0 < c .rest .left → routeOf setup l (c .rest) ≡ routeOf setup l q
+  unfolding routeOf
+  rest-route l h = rw (rest-slave h, rest-start h)
 
   -- and fits as the whole does
   pub rest-fits : 0 < c .rest .left → Fits setup k (c .rest)
@@ -156,31 +156,31 @@ module _ (setup : Setup) (framed : isFramed setup ≡ true) {k : ℕ} (q : Reque
         master = rw e (omega (arith, leaves .most, fits .master));
       }
 
-transfer-by : (setup : Setup) (l : ℕ) (q : Request) → transferOf setup l q ≡ nextTime (pathOf setup l q) q
+transfer-by : (setup : Setup) (l : ℕ) (q : Request) → transferOf setup l q ≡ nextTime (routeOf setup l q) q
 unfolding transferOf
 transfer-by setup l q = refl
 
 -- the next cycle of a level's request that fits
 module _ (setup : Setup) (framed : isFramed setup ≡ true) (l : ℕ) (present : isPresent (setup .levels) l ≡ true) (q : Request)
     (fits : Fits setup l q) where
-  path-width : isWidth (pathOf setup l q .width) ≡ true
-  unfolding pathOf
-  path-width = level-facts-of setup framed l present .0 .width
+  route-width : isWidth (routeOf setup l q .width) ≡ true
+  unfolding routeOf
+  route-width = level-facts-of setup framed l present .0 .width
 
-  path-port : isPort (pathOf setup l q .port) ≡ true
-  unfolding pathOf
-  path-port = slave-facts-of setup framed q fits .facts .port
+  route-port : isPort (routeOf setup l q .port) ≡ true
+  unfolding routeOf
+  route-port = slave-facts-of setup framed q fits .facts .port
 
-  pub cycle-leaves : Leaves q (cycleOf (pathOf setup l q) q)
-  cycle-leaves = leaves (pathOf setup l q) q path-width path-port (fits .some)
+  pub cycle-leaves : Leaves q (cycleOf (routeOf setup l q) q)
+  cycle-leaves = leaves (routeOf setup l q) q route-width route-port (fits .some)
 
-  pub cycle-takes : Takes setup l q (cycleOf (pathOf setup l q) q)
+  pub cycle-takes : Takes setup l q (cycleOf (routeOf setup l q) q)
   cycle-takes =
-      let path = pathOf setup l q in
+      let route = routeOf setup l q in
       record {
-        transfer = transfer-by setup l q ∙ transfer-is path q path-width path-port (fits .some);
+        transfer = transfer-by setup l q ∙ transfer-is route q route-width route-port (fits .some);
         next = λ h.
-            transfer-by setup l (cycleOf path q .rest)
-            ∙ ap (λ (p : Path). nextTime p (cycleOf path q .rest)) (rest-path setup framed q fits (cycleOf path q) cycle-leaves l h)
-            ∙ sym (next-by path q);
+            transfer-by setup l (cycleOf route q .rest)
+            ∙ ap (λ (p : Route). nextTime p (cycleOf route q .rest)) (rest-route setup framed q fits (cycleOf route q) cycle-leaves l h)
+            ∙ sym (next-by route q);
       }

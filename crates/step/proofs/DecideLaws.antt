@@ -10,7 +10,7 @@ use Rattle.channel.specs.declared.Phase.{Phase}
 use Rattle.channel.specs.declared.Phase.the-variants.{Arbitrating, Granted}
 use Rattle.channel.specs.declared.Request.{Request}
 use Rattle.channel.specs.Line.{winner, lineActive}
-use Rattle.act.specs.declared.Path.{Path}
+use Rattle.act.specs.declared.Route.{Route}
 use Rattle.act.specs.Turn.{arbitrationTime}
 use Rattle.step.specs.declared.acts.Standing.{Standing}
 use Rattle.step.specs.declared.acts.Decided.{Decided}
@@ -21,7 +21,7 @@ use Rattle.step.specs.inner.Machine.{
   fullActed,
   grantedBy,
   restActed,
-  stays,
+  stayOf,
   cycleDecided,
   cycleMarks,
   decidedBy,
@@ -35,38 +35,38 @@ pub from-first : (left : List ℕ) (inactive : List Bool) → Search left inacti
 from-first left inactive =
     record { most = omega arith; small = omega arith; none = λ l h. absurd (omega (arith, h)); clear = λ l h. absurd (omega (arith, h)) }
 
-module _ (path : Path) (s : Standing) (q : Request) (left : List ℕ) (inactive : List Bool) where
+module _ (route : Route) (s : Standing) (q : Request) (left : List ℕ) (inactive : List Bool) where
   abbrev Right : Decided → List Bool → Type 0
-  Right d marks = (d ≡ decidedOf path s q left inactive) × (marks ≡ decidedMarks path s q left inactive)
+  Right d marks = (d ≡ decidedOf route s q left inactive) × (marks ≡ decidedMarks route s q left inactive)
 
-  by-phase : (p : Phase) → s .phase ≡ p → (d : Decided) (marks : List Bool) → d ≡ decidedBy path s q left inactive p
-      → marks ≡ marksBy path s q left inactive p → Right d marks
+  by-phase : (p : Phase) → s .phase ≡ p → (d : Decided) (marks : List Bool) → d ≡ decidedBy route s q left inactive p
+      → marks ≡ marksBy route s q left inactive p → Right d marks
   unfolding decidedOf decidedMarks
-  by-phase p e d marks a b = (a ∙ ap (decidedBy path s q left inactive) (sym e), b ∙ ap (marksBy path s q left inactive) (sym e))
+  by-phase p e d marks a b = (a ∙ ap (decidedBy route s q left inactive) (sym e), b ∙ ap (marksBy route s q left inactive) (sym e))
 
   module _ (e : s .phase ≡ Arbitrating) where
-    pub decides-full : (d : Decided) → ltb clockLimit (s .clock + arbitrationTime) ≡ true → d ≡ stays (fullActed s) q → Right d inactive
+    pub decides-full : (d : Decided) → ltb clockLimit (s .clock + arbitrationTime) ≡ true → d ≡ stayOf (fullActed s) q → Right d inactive
     decides-full d t a = by-phase Arbitrating e d inactive (a ∙ rw t) (rw t)
 
     pub decides-grant : (d : Decided) (marks : List Bool) (base : ℕ) (c : Chosen) → ltb clockLimit (s .clock + arbitrationTime) ≡ false
-        → IsChosen left inactive marks base c → d ≡ stays (grantedBy s (c .winner) (c .active)) q → Right d marks
+        → IsChosen left inactive marks base c → d ≡ stayOf (grantedBy s (c .winner) (c .active)) q → Right d marks
     decides-grant d marks base c f x a =
         by-phase Arbitrating e d marks
         (a
-        ∙ ap₂ (λ (w : ℕ) (active : Bool). stays (grantedBy s w active) q) (x .won) (x .active)
-        ∙ ap (λ (m : List Bool). stays (grantedBy s (winner left inactive) (lineActive left m (Granted (winner left inactive)))) q)
+        ∙ ap₂ (λ (w : ℕ) (active : Bool). stayOf (grantedBy s w active) q) (x .won) (x .active)
+        ∙ ap (λ (m : List Bool). stayOf (grantedBy s (winner left inactive) (lineActive left m (Granted (winner left inactive)))) q)
         (x .marks)
         ∙ rw f)
         (x .marks ∙ rw f)
 
   module _ (o : ℕ) (e : s .phase ≡ Granted o) where
-    pub decides-rest : (d : Decided) → eqb (q .left) 0 ≡ true → d ≡ stays (restActed (s .asked) s o) q → Right d inactive
+    pub decides-rest : (d : Decided) → eqb (q .left) 0 ≡ true → d ≡ stayOf (restActed (s .asked) s o) q → Right d inactive
     decides-rest d z a = by-phase (Granted o) e d inactive (a ∙ rw z) (rw z)
 
     module _ (n : eqb (q .left) 0 ≡ false) where
-      pub decides-late : (d : Decided) → ltb clockLimit (s .clock + path .time) ≡ true → d ≡ stays (fullActed s) q → Right d inactive
+      pub decides-late : (d : Decided) → ltb clockLimit (s .clock + route .time) ≡ true → d ≡ stayOf (fullActed s) q → Right d inactive
       decides-late d t a = by-phase (Granted o) e d inactive (a ∙ rw (n, t)) (rw (n, t))
 
-      pub decides-cycle : (d : Decided) (marks : List Bool) → ltb clockLimit (s .clock + path .time) ≡ false → d ≡ cycleDecided path s o q
-          → marks ≡ cycleMarks path s o q inactive → Right d marks
+      pub decides-cycle : (d : Decided) (marks : List Bool) → ltb clockLimit (s .clock + route .time) ≡ false → d ≡ cycleDecided route s o q
+          → marks ≡ cycleMarks route s o q inactive → Right d marks
       decides-cycle d marks f a b = by-phase (Granted o) e d marks (a ∙ rw (n, f)) (b ∙ rw (n, f))

@@ -15,22 +15,22 @@ use Rattle.frame.specs.declared.Setup.{Setup}
 use Rattle.channel.specs.declared.Phase.{Phase}
 use Rattle.channel.specs.declared.Phase.the-variants.{Arbitrating, Granted}
 use Rattle.channel.specs.declared.Channel.{Channel}
-use Rattle.channel.specs.Channel.{ownerOf, placeIn, hasRequest, requestOf, Shaped}
+use Rattle.channel.specs.Channel.{ownerOf, ownerPlace, hasRequest, requestOf, Shaped}
 use Rattle.channel.specs.Line.{waits}
 use Rattle.sound.proofs.SoundFacts.{sound-is}
-use Rattle.act.specs.declared.Path.{Path}
-use Rattle.act.specs.Cycle.{pathOf}
+use Rattle.act.specs.declared.Route.{Route}
+use Rattle.act.specs.Cycle.{routeOf}
 use Rattle.step.specs.Step.{Ready}
-use Rattle.step.specs.Run.{ended, runFrom}
-use Rattle.step.specs.inner.Machine.{noPath, NoneAsk}
+use Rattle.step.specs.Run.{stopped, runFrom}
+use Rattle.step.specs.inner.Machine.{noRoute, NoneAsk}
 use Rattle.step.specs.inner.Turns.{
   Running,
   worldOf,
-  verdictIf,
+  verdictOf,
   decidedIn,
   stepRun,
   toCome,
-  ArePaths,
+  AreRoutes,
   Lows,
   Turnable,
   Loggable,
@@ -42,18 +42,18 @@ use Rattle.step.proofs.MachineLaws.{actable-by}
 use Rattle.step.proofs.TurnLaws.{SameWays, OneStep, one-step, room-step, Turned, turned-step}
 use Rattle.step.proofs.CycleLaws.{cycles-turn}
 
-pub record Going (setup : Setup) (paths : List Path) (w : Running) : Type 0 where
+pub record Going (setup : Setup) (routes : List Route) (w : Running) : Type 0 where
   pub ready : Ready setup (w .channel) (length (w .slave)) (length (w .master))
   pub shaped : Shaped (w .channel)
-  pub routed : ArePaths setup (requestOf (w .channel)) paths places
+  pub routed : AreRoutes setup (requestOf (w .channel)) routes places
 
 open-is : (n : ℕ) → eqb n 0 ≡ false → not (eqb n 0) ≡ true
 open-is n e = rw e
 
-pub go-on : (setup : Setup) (paths : List Path) (w later : Running) → Going setup paths w
+pub go-on : (setup : Setup) (routes : List Route) (w later : Running) → Going setup routes w
     → Ready setup (later .channel) (length (later .slave)) (length (later .master)) → Shaped (later .channel)
-    → SameWays setup (w .channel) (later .channel) → Going setup paths later
-go-on setup paths w later g ready shaped ways =
+    → SameWays setup (w .channel) (later .channel) → Going setup routes later
+go-on setup routes w later g ready shaped ways =
     record {
       ready = ready;
       shaped = shaped;
@@ -63,76 +63,76 @@ go-on setup paths w later g ready shaped ways =
     }
 
 -- a run at its start and later
-pub record Runs (setup : Setup) (budget : ℕ) (paths : List Path) (first w : Running) : Type 0 where
-  pub going : Going setup paths w
+pub record Runs (setup : Setup) (budget : ℕ) (routes : List Route) (first w : Running) : Type 0 where
+  pub going : Going setup routes w
   pub same : toCome setup budget w ≡ toCome setup budget first
   pub least : w .done ≤ budget
 
-pub runs-on : (setup : Setup) (budget : ℕ) (paths : List Path) (first w later : Running) → Runs setup budget paths first w
-    → Turned setup budget w later → Runs setup budget paths first later
-runs-on setup budget paths first w later g t =
+pub runs-on : (setup : Setup) (budget : ℕ) (routes : List Route) (first w later : Running) → Runs setup budget routes first w
+    → Turned setup budget w later → Runs setup budget routes first later
+runs-on setup budget routes first w later g t =
     record {
-      going = go-on setup paths w later (g .going) (t .ready) (t .shaped) (t .ways);
+      going = go-on setup routes w later (g .going) (t .ready) (t .shaped) (t .ways);
       same = t .same ∙ g .same;
       least = t .least;
     }
 
-pub runs-first : (setup : Setup) (budget : ℕ) (paths : List Path) (first : Running) → first .done ≡ 0 → Going setup paths first
-    → Runs setup budget paths first first
-runs-first setup budget paths first z g = record { going = g; same = refl; least = omega (arith, z) }
+pub runs-first : (setup : Setup) (budget : ℕ) (routes : List Route) (first : Running) → first .done ≡ 0 → Going setup routes first
+    → Runs setup budget routes first first
+runs-first setup budget routes first z g = record { going = g; same = refl; least = omega (arith, z) }
 
-module _ (setup : Setup) (paths : List Path) (w : Running) (g : Going setup paths w) where
-  abbrev path : Path
-  path = getD paths (placeIn (w .channel .phase)) noPath
+module _ (setup : Setup) (routes : List Route) (w : Running) (g : Going setup routes w) where
+  abbrev route : Route
+  route = getD routes (ownerPlace (w .channel .phase)) noRoute
 
   small : (o : ℕ) → w .channel .phase ≡ Granted o → o < places
   small o p = omega (arith, sound-is setup (w .channel) (g .ready .sound) .settled .owner o p .small)
 
-  path-is : (o : ℕ) → w .channel .phase ≡ Granted o → eqb (getD (w .channel .left) o 0) 0 ≡ false → path
-      ≡ pathOf setup o (requestOf (w .channel) o)
-  path-is o p some = ap (λ (x : Phase). getD paths (placeIn x) noPath) p ∙ g .routed o (small o p) some
+  route-is : (o : ℕ) → w .channel .phase ≡ Granted o → eqb (getD (w .channel .left) o 0) 0 ≡ false → route
+      ≡ routeOf setup o (requestOf (w .channel) o)
+  route-is o p some = ap (λ (x : Phase). getD routes (ownerPlace x) noRoute) p ∙ g .routed o (small o p) some
 
-  pub place-below : placeIn (w .channel .phase) < places
+  pub place-below : ownerPlace (w .channel .phase) < places
   place-below = below (w .channel .phase) refl
     where
-      below : (p : Phase) → w .channel .phase ≡ p → placeIn p < places
+      below : (p : Phase) → w .channel .phase ≡ p → ownerPlace p < places
       below Arbitrating e = omega arith
       below (Granted o) e = small o e
 
   -- a step of it, and what that relies on
-  pub stepped : OneStep setup w (stepRun path w) (decidedIn path (w .channel) (w .tally) .acted .answer)
-  stepped = one-step setup w (g .ready) (g .shaped) path path-is
+  pub stepped : OneStep setup w (stepRun route w) (decidedIn route (w .channel) (w .tally) .acted .answer)
+  stepped = one-step setup w (g .ready) (g .shaped) route route-is
 
-  pub loggable : w .done < stepsMost → Loggable path w
+  pub loggable : w .done < stepsMost → Loggable route w
   loggable more =
       record {
-        acts = actable-by setup (w .channel) (w .tally) _ _ (g .ready) path path-is;
-        room = room-step setup w (g .ready) (g .shaped) path path-is;
+        acts = actable-by setup (w .channel) (w .tally) _ _ (g .ready) route route-is;
+        room = room-step setup w (g .ready) (g .shaped) route route-is;
         place = place-below;
         more = more;
       }
 
-module _ (setup : Setup) (budget : ℕ) (paths : List Path) (w : Running) (g : Going setup paths w) (f : w .full ≡ false)
+module _ (setup : Setup) (budget : ℕ) (routes : List Route) (w : Running) (g : Going setup routes w) (f : w .full ≡ false)
     (h : w .done < budget) where
   -- whatever the phase
-  turn-by : (p : Phase) → w .channel .phase ≡ p → Turned setup budget w (turnBy (path setup paths w g) budget w p)
-  turn-by Arbitrating e = turned-step setup budget w f h (g .ready) (g .shaped) (path setup paths w g) (path-is setup paths w g)
+  turn-by : (p : Phase) → w .channel .phase ≡ p → Turned setup budget w (turnBy (route setup routes w g) budget w p)
+  turn-by Arbitrating e = turned-step setup budget w f h (g .ready) (g .shaped) (route setup routes w g) (route-is setup routes w g)
   turn-by (Granted o) e =
       by-test (eqb (getD (w .channel .left) o 0) 0)
-      (λ z. rw z (turned-step setup budget w f h (g .ready) (g .shaped) (path setup paths w g) (path-is setup paths w g)))
-      (λ n. rw n (cycles-turn setup budget w f h (g .ready) (g .shaped) o e n (path setup paths w g) (path-is setup paths w g o e n)))
+      (λ z. rw z (turned-step setup budget w f h (g .ready) (g .shaped) (route setup routes w g) (route-is setup routes w g)))
+      (λ n. rw n (cycles-turn setup budget w f h (g .ready) (g .shaped) o e n (route setup routes w g) (route-is setup routes w g o e n)))
 
-  turned : Turned setup budget w (turnOf (path setup paths w g) budget w)
+  turned : Turned setup budget w (turnOf (route setup routes w g) budget w)
   unfolding turnOf
   turned = turn-by (w .channel .phase) refl
 
-  pub turned-by : (later : Running) (i : ℕ) → i ≡ placeIn (w .channel .phase) → later ≡ turnOf (getD paths i noPath) budget w
+  pub turned-by : (later : Running) (i : ℕ) → i ≡ ownerPlace (w .channel .phase) → later ≡ turnOf (getD routes i noRoute) budget w
       → Turned setup budget w later
   turned-by later i e t = rw (t, e) turned
 
   -- what the turn relies on
   pub turnable : (base low : ℕ) → budget ≤ stepsMost → Lows base low (w .channel)
-      → Turnable (path setup paths w g) base low budget w
+      → Turnable (route setup routes w g) base low budget w
   turnable base low most lows =
       let s = sound-is setup (w .channel) (g .ready .sound) .settled in
       record {
@@ -143,10 +143,10 @@ module _ (setup : Setup) (budget : ℕ) (paths : List Path) (w : Running) (g : G
         lows = lows;
         owned = λ o p.
             record {
-              small = small setup paths w g o p;
+              small = small setup routes w g o p;
               active = s .owner o p .active;
               roomy = λ some.
-                  rw (path-is setup paths w g o p some) (roomy setup (w .channel) o (length (w .slave)) (length (w .master)) (g .ready) p some);
+                  rw (route-is setup routes w g o p some) (roomy setup (w .channel) o (length (w .slave)) (length (w .master)) (g .ready) p some);
             };
       }
 
@@ -189,7 +189,7 @@ start-lows setup ch s m base r most none =
 
 -- where it ends: the budget is used up, or the clock is full
 pub finished : (setup : Setup) (budget : ℕ) (w : Running) → (ltb (w .done) budget && not (w .full)) ≡ false → w .done ≤ budget
-    → toCome setup budget w ≡ ended (verdictIf (w .full)) (w .done) (worldOf w)
+    → toCome setup budget w ≡ stopped (verdictOf (w .full)) (w .done) (worldOf w)
 unfolding toCome runFrom
 finished setup budget w e l =
     by-test (w .full)

@@ -26,7 +26,7 @@ use Rattle.channel.specs.Channel.{ownerOf, hasRequest, requestOf, noRequest, wi
 use Rattle.channel.specs.Line.{isInactive, drives, lineActive, line, winner}
 use Rattle.channel.proofs.LineLaws.{waits-is, winner-is, none-waits}
 use Rattle.channel.proofs.RequestLaws.{request-same, request-other, with-shaped, changed-shaped, rule-shaped}
-use Rattle.frame.specs.Allowance.{allowance, isWithin}
+use Rattle.frame.specs.Allowance.{allowanceOf, isWithin}
 use Rattle.frame.specs.Rows.{isPresent, levelOf, hasBurst, isFair, hasLinger}
 use Rattle.channel.specs.Slave.{slaveOf, startOf}
 use Rattle.sound.specs.Request.{requestVerdict}
@@ -34,12 +34,12 @@ use Rattle.sound.specs.Sound.{isBlank, isInTime}
 use Rattle.sound.proofs.SoundFacts.{Grant as MayOwn, InTime, Settled, Sound}
 use Rattle.sound.proofs.RuleLaws.{rule-sound}
 use Rattle.sound.proofs.RequestFacts.{Fits, fits-is, fits-by}
-use Rattle.act.specs.declared.Path.{Path}
+use Rattle.act.specs.declared.Route.{Route}
 use Rattle.act.specs.declared.Ending.{Ending}
 use Rattle.act.specs.declared.Ending.the-variants.{Kept, Released, Marked}
 use Rattle.act.specs.Cycle.{
   Cycle,
-  pathOf,
+  routeOf,
   lateFor,
   isLate,
   isLeaving,
@@ -54,7 +54,7 @@ use Rattle.act.specs.Cycle.{
   cycleTurn,
 }
 use Rattle.act.specs.Turn.{arbitrationTime, granted, grantTurn, leaveTurn}
-use Rattle.step.proofs.CycleFacts.{Leaves, Takes, rest-slave, rest-start, rest-path, rest-fits, cycle-leaves, cycle-takes}
+use Rattle.step.proofs.CycleFacts.{Leaves, Takes, rest-slave, rest-start, rest-route, rest-fits, cycle-leaves, cycle-takes}
 use Rattle.step.specs.declared.Plan.{Plan}
 use Rattle.step.specs.declared.Plan.the-variants as plan
 use Rattle.step.specs.Plan.{nextOf, actPlan}
@@ -120,10 +120,10 @@ module _ (setup : Setup) (framed : isFramed setup ≡ true) (ch : Channel) (s : 
         asked = λ o t f a. let z : _≡_ {A = ℕ} 0 1 = cc in absurd (omega arith);
       }
 
--- the names of one cycle: the owner's path and next cycle, the clock after it, what it leaves of the request, the channel moved on, whether the owner
+-- the names of one cycle: the owner's route and next cycle, the clock after it, what it leaves of the request, the channel moved on, whether the owner
 -- then releases it, and the channel after that
-abbrev pub pathAt : Setup → Channel → ℕ → Path
-pathAt setup ch o = pathOf setup o (requestOf ch o)
+abbrev pub routeAt : Setup → Channel → ℕ → Route
+routeAt setup ch o = routeOf setup o (requestOf ch o)
 
 abbrev pub nextCycle : Setup → Channel → ℕ → Cycle
 nextCycle setup ch o = nextOf setup o (requestOf ch o)
@@ -138,10 +138,10 @@ abbrev pub movedAt : Setup → Channel → ℕ → Channel
 movedAt setup ch o = movedOn ch o (nextCycle setup ch o)
 
 abbrev pub leavesAt : Setup → Channel → ℕ → Bool
-leavesAt setup ch o = isLeaving (pathAt setup ch o) (ch .asked) (clockAt setup ch o) (nextCycle setup ch o)
+leavesAt setup ch o = isLeaving (routeAt setup ch o) (ch .asked) (clockAt setup ch o) (nextCycle setup ch o)
 
 abbrev pub endedAt : Setup → Channel → ℕ → Channel
-endedAt setup ch o = endedBy (endingAt (pathAt setup ch o) ch (nextCycle setup ch o)) (movedAt setup ch o) o
+endedAt setup ch o = endedBy (endingAt (routeAt setup ch o) ch (nextCycle setup ch o)) (movedAt setup ch o) o
 
 pub clocked-shaped : (ch : Channel) (k : ℕ) → Shaped ch → Shaped (clocked ch k)
 unfolding clocked
@@ -178,8 +178,8 @@ module _ (setup : Setup) (framed : isFramed setup ≡ true) (ch : Channel) (shap
   pub same-start : 0 < restAt setup ch o .left → startOf (setup .slaves) (restAt setup ch o) ≡ startOf (setup .slaves) (requestOf ch o)
   same-start h = rest-start setup framed (requestOf ch o) fits (nextCycle setup ch o) leaves h
 
-  pub same-path : 0 < restAt setup ch o .left → pathOf setup o (restAt setup ch o) ≡ pathAt setup ch o
-  same-path h = rest-path setup framed (requestOf ch o) fits (nextCycle setup ch o) leaves o h
+  pub same-route : 0 < restAt setup ch o .left → routeOf setup o (restAt setup ch o) ≡ routeAt setup ch o
+  same-route h = rest-route setup framed (requestOf ch o) fits (nextCycle setup ch o) leaves o h
 
   -- the requests afterwards
   pub here : (m : ℕ) → m ≡ o → requestOf (movedAt setup ch o) m ≡ restAt setup ch o
@@ -252,22 +252,22 @@ module _ (setup : Setup) (framed : isFramed setup ≡ true) (ch : Channel) (shap
 
   -- inside a transfer its end stays where it was; at its end the release rule says that the next one fits
   inside-within : (t : ℕ) → InTime setup ch o t → nextCycle setup ch o .ends ≡ false
-      → isWithin (allowance setup) (nextCycle setup ch o .next) (clockAt setup ch o) t ≡ true
+      → isWithin (allowanceOf setup) (nextCycle setup ch o .next) (clockAt setup ch o) t ≡ true
   unfolding isWithin isInTime
   inside-within t i e =
-      let k = leb-true _ (t + allowance setup) (rw (not-true (eqb (requestOf ch o .left) 0) asks) at (i .kept)) in
+      let k = leb-true _ (t + allowanceOf setup) (rw (not-true (eqb (requestOf ch o .left) 0) asks) at (i .kept)) in
       let d = rw e at (takes .transfer) in
-      le-leb _ (t + allowance setup) (omega (arith, k, d))
+      le-leb _ (t + allowanceOf setup) (omega (arith, k, d))
 
   end-within : (t : ℕ) → ch .asked ≡ At t → leavesAt setup ch o ≡ false → nextCycle setup ch o .ends ≡ true
-      → isWithin (allowance setup) (nextCycle setup ch o .next) (clockAt setup ch o) t ≡ true
-  unfolding isLeaving isLate pathOf
+      → isWithin (allowanceOf setup) (nextCycle setup ch o .next) (clockAt setup ch o) t ≡ true
+  unfolding isLeaving isLate routeOf
   end-within t a e f =
-      let path = pathAt setup ch o in
+      let route = routeAt setup ch o in
       let u = rw f at e in
-      let late = or-none (not (hasBurst (path .options))) _ (or-none (eqb (restAt setup ch o .left) 0) _ u .1) .1 in
-      let asked = ap (λ (x : Asked). lateFor path x (clockAt setup ch o) (nextCycle setup ch o .next)) a in
-      not-false _ (or-none (not (hasLinger (path .options))) _ (sym asked ∙ late) .1)
+      let late = or-none (not (hasBurst (route .options))) _ (or-none (eqb (restAt setup ch o .left) 0) _ u .1) .1 in
+      let asked = ap (λ (x : Asked). lateFor route x (clockAt setup ch o) (nextCycle setup ch o .next)) a in
+      not-false _ (or-none (not (hasLinger (route .options))) _ (sym asked ∙ late) .1)
 
   kept-in-time : (t : ℕ) → ch .asked ≡ At t → leavesAt setup ch o ≡ false
       → isInTime setup o (requestOf (movedAt setup ch o) o) (clockAt setup ch o) t ≡ true
@@ -335,9 +335,9 @@ module _ (setup : Setup) (framed : isFramed setup ≡ true) (ch : Channel) (shap
       (ap (isPresent (setup .levels)) q ∙ present, ap (λ (m : ℕ). isFair (levelOf (setup .levels) m .options)) q ∙ f))
       (λ b. s .settled .fair l k (sym (getD-set-other (ch .inactive) o l true false (eqb-false l o b)) ∙ e))
 
-  pub released-settled : (a : Asked) → Settled setup (endedBy (releasedBy (pathAt setup ch o .options) a (clockAt setup ch o))
+  pub released-settled : (a : Asked) → Settled setup (endedBy (releasedBy (routeAt setup ch o .options) a (clockAt setup ch o))
       (movedAt setup ch o) o)
-  unfolding pathOf movedOn clocked withRequest
+  unfolding routeOf movedOn clocked withRequest
   released-settled Never = freed-settled (ch .inactive) (s .settled .fair)
   released-settled (At t) =
       by-test (isFair (levelOf (setup .levels) o .options))
@@ -399,5 +399,5 @@ step-shaped setup ch (plan.Grant w) k = rule-shaped (granted ch w) (granted-shap
 step-shaped setup ch (plan.Leave o) k = rule-shaped (freed ch (ch .inactive)) (freed-shaped ch (ch .inactive) (k .inactive) k)
 step-shaped setup ch (plan.Cycle o) k =
     rule-shaped (endedAt setup ch o)
-    (ended-shaped (endingAt (pathAt setup ch o) ch (nextCycle setup ch o)) (movedAt setup ch o) o
+    (ended-shaped (endingAt (routeAt setup ch o) ch (nextCycle setup ch o)) (movedAt setup ch o) o
     (moved-shaped ch o (nextCycle setup ch o) k))

@@ -8,7 +8,7 @@ pub mod ByteLaws
 pub mod AfterLaws
 pub mod CarryLaws
 pub mod DecideLaws
-pub mod PathLaws
+pub mod RouteLaws
 pub mod HeldLaws
 pub mod MachineLaws
 pub mod RunLaws

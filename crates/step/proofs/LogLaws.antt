@@ -13,31 +13,31 @@ use Rattle.basics.proofs.Tests.{by-test, and-left, and-right}
 use Rattle.refusal.specs.declared.Refusal.{Refusal}
 use Rattle.frame.specs.declared.Setup.{Setup}
 use Rattle.channel.specs.declared.Request.{Request}
-use Rattle.channel.specs.Channel.{placeIn, requestOf, withRequest}
+use Rattle.channel.specs.Channel.{ownerPlace, requestOf, withRequest}
 use Rattle.sound.specs.inner.Tables.{requestAt}
-use Rattle.act.specs.declared.Path.{Path}
+use Rattle.act.specs.declared.Route.{Route}
 use Rattle.act.specs.declared.Entry.{Entry}
 use Rattle.logline.specs.Line.{entryText}
-use Rattle.logline.specs.Text.{hasRoom, past, written}
+use Rattle.logline.specs.Text.{hasRoomIn, placeAfter, outAfter}
 use Rattle.step.specs.declared.StepAnswer.{StepAnswer}
 use Rattle.step.specs.declared.StepAnswer.the-variants.{Done, Refused as NotDone}
 use Rattle.step.specs.declared.acts.Decided.{Decided}
 use Rattle.step.specs.declared.logs.Log.{Log}
 use Rattle.step.specs.Step.{Room, movedSlave, movedMaster}
-use Rattle.step.specs.inner.Machine.{noPath, standingOf, decidedOf, decidedMarks, Actable}
-use Rattle.step.specs.Log.{Page, lined, closed, logFrom}
+use Rattle.step.specs.inner.Machine.{noRoute, standingOf, decidedOf, decidedMarks, Actable}
+use Rattle.step.specs.Log.{Page, pageAfter, closed, logFrom}
 use Rattle.step.specs.inner.Turns.{
   Running,
   worldOf,
-  verdictIf,
-  steps,
+  verdictOf,
+  stepsAfter,
   stops,
   decidedIn,
   marksIn,
   stepRun,
   Logging,
   loggingOf,
-  lineBy,
+  pageBy,
   logStep,
   logToCome,
   Loggable,
@@ -48,31 +48,31 @@ use Rattle.step.proofs.GoingLaws.{Going, go-on, stepped}
 
 -- what was still to come, comes after the step
 log-once : (setup : Setup) (budget : ℕ) (w later : Running) (p : Page) (answer : StepAnswer) → w .full ≡ false → w .done < budget
-    → hasRoom (p .out) (p .at) ≡ true → OneStep setup w later answer
-    → logToCome setup budget (record { running = later; page = lineBy answer p }) ≡ logToCome setup budget (record { running = w; page = p })
+    → hasRoomIn (p .out) (p .at) ≡ true → OneStep setup w later answer
+    → logToCome setup budget (record { running = later; page = pageBy answer p }) ≡ logToCome setup budget (record { running = w; page = p })
 unfolding logToCome
 log-once setup budget w later p (Done e) f h room s =
     rw (f, s .full, s .done)
     (sym
     (log-more setup budget (w .done) (worldOf w) h p e room (s .told)
-    ∙ ap (λ (x : _). logFrom setup (budget - (w .done + 1)) (w .done + 1) x (lined p e)) (s .next)))
+    ∙ ap (λ (x : _). logFrom setup (budget - (w .done + 1)) (w .done + 1) x (pageAfter p e)) (s .next)))
 log-once setup budget w later p (NotDone why) f h room s =
     let x = s .stopped why refl in
     rw (f, s .full, s .done, x .1) (sym (log-stop setup budget (w .done) (worldOf w) h p why room (s .told) ∙ rw (x .0)))
 
 -- a step put back into the arrays, from what the calls said
-module _ (path : Path) (log : Log) (inactive : List Bool) (direction space address left offset slave master out : List ℕ) (place : ℕ)
-    (here : place ≡ placeIn (log .standing .phase)) (q : Request) (request : q ≡ requestAt direction space address left offset place)
-    (d : Decided) (marks : List Bool) (e : d ≡ decidedOf path (log .standing) q left inactive)
-    (m : marks ≡ decidedMarks path (log .standing) q left inactive) (slaves masters : List ℕ)
+module _ (route : Route) (log : Log) (inactive : List Bool) (direction space address left offset slave master out : List ℕ) (place : ℕ)
+    (here : place ≡ ownerPlace (log .standing .phase)) (q : Request) (request : q ≡ requestAt direction space address left offset place)
+    (d : Decided) (marks : List Bool) (e : d ≡ decidedOf route (log .standing) q left inactive)
+    (m : marks ≡ decidedMarks route (log .standing) q left inactive) (slaves masters : List ℕ)
     (moved : (slaves ≡ movedSlave (d .carry) slave master) × (masters ≡ movedMaster (d .carry) slave master)) where
   abbrev was : Logging
   was = loggingOf log inactive direction space address left offset slave master out
 
-  decided-is : d ≡ decidedIn path (was .running .channel) (was .running .tally)
+  decided-is : d ≡ decidedIn route (was .running .channel) (was .running .tally)
   decided-is = e ∙ rw (request, here)
 
-  marks-is : marks ≡ marksIn path (was .running .channel) (was .running .tally)
+  marks-is : marks ≡ marksIn route (was .running .channel) (was .running .tally)
   marks-is = m ∙ rw (request, here)
 
   abbrev put : Log → List ℕ → Logging
@@ -80,37 +80,37 @@ module _ (path : Path) (log : Log) (inactive : List Bool) (direction space addre
       loggingOf next marks (set direction place (d .slot .direction)) (set space place (d .slot .space))
       (set address place (d .slot .address)) (set left place (d .slot .left)) (set offset place (d .slot .offset)) slaves masters page
 
-  pub log-done : (entry : Entry) (at : ℕ) (page : List ℕ) → d .acted .answer ≡ Done entry → at ≡ past out (log .at) (entryText entry)
-      → page ≡ written out (log .at) (entryText entry)
-      → put (record { standing = d .acted .standing; done = log .done + 1; full = false; at = at }) page ≡ logStep path was
-  unfolding logStep stepRun withRequest lined
+  pub log-done : (entry : Entry) (at : ℕ) (page : List ℕ) → d .acted .answer ≡ Done entry → at ≡ placeAfter out (log .at) (entryText entry)
+      → page ≡ outAfter out (log .at) (entryText entry)
+      → put (record { standing = d .acted .standing; done = log .done + 1; full = false; at = at }) page ≡ logStep route was
+  unfolding logStep stepRun withRequest pageAfter
   log-done entry at page a b c = rw (← decided-is, ← marks-is, a, b, c, moved .0, moved .1, here)
 
   pub log-full : (why : Refusal) → d .acted .answer ≡ NotDone why
-      → put (record { standing = d .acted .standing; done = log .done; full = true; at = log .at }) out ≡ logStep path was
+      → put (record { standing = d .acted .standing; done = log .done; full = true; at = log .at }) out ≡ logStep route was
   unfolding logStep stepRun withRequest
   log-full why a = rw (← decided-is, ← marks-is, a, moved .0, moved .1, here)
 
 -- what the step relies on, in the form of its calls' needs
-pub acts-at : (path : Path) (w : Running) → Loggable path w → (place : ℕ) → place ≡ placeIn (w .channel .phase) → (q : Request)
-    → q ≡ requestOf (w .channel) place → Actable path (standingOf (w .channel) (w .tally)) q
-acts-at path w l place here q request = rw (request, here) (l .acts)
+pub acts-at : (route : Route) (w : Running) → Loggable route w → (place : ℕ) → place ≡ ownerPlace (w .channel .phase) → (q : Request)
+    → q ≡ requestOf (w .channel) place → Actable route (standingOf (w .channel) (w .tally)) q
+acts-at route w l place here q request = rw (request, here) (l .acts)
 
-pub room-at : (path : Path) (w : Running) → Loggable path w → (place : ℕ) → place ≡ placeIn (w .channel .phase) → (q : Request)
+pub room-at : (route : Route) (w : Running) → Loggable route w → (place : ℕ) → place ≡ ownerPlace (w .channel .phase) → (q : Request)
     → q ≡ requestOf (w .channel) place → (d : Decided)
-    → d ≡ decidedOf path (standingOf (w .channel) (w .tally)) q (w .channel .left) (w .channel .inactive)
+    → d ≡ decidedOf route (standingOf (w .channel) (w .tally)) q (w .channel .left) (w .channel .inactive)
     → Room (d .carry) (length (w .slave)) (length (w .master))
-room-at path w l place here q request d e = rw (e, request, here) (l .room)
+room-at route w l place here q request d e = rw (e, request, here) (l .room)
 
 -- a logged run at its start and later
-pub record Logs (setup : Setup) (budget : ℕ) (paths : List Path) (first g : Logging) : Type 0 where
-  pub going : Going setup paths (g .running)
+pub record Logs (setup : Setup) (budget : ℕ) (routes : List Route) (first g : Logging) : Type 0 where
+  pub going : Going setup routes (g .running)
   pub same : logToCome setup budget g ≡ logToCome setup budget first
   pub least : g .running .done ≤ budget
 
-pub logs-first : (setup : Setup) (budget : ℕ) (paths : List Path) (first : Logging) → first .running .done ≡ 0
-    → Going setup paths (first .running) → Logs setup budget paths first first
-logs-first setup budget paths first z g = record { going = g; same = refl; least = omega (arith, z) }
+pub logs-first : (setup : Setup) (budget : ℕ) (routes : List Route) (first : Logging) → first .running .done ≡ 0
+    → Going setup routes (first .running) → Logs setup budget routes first first
+logs-first setup budget routes first z g = record { going = g; same = refl; least = omega (arith, z) }
 
 -- what the loop's test says
 pub goes : (done budget : ℕ) (full room : Bool) → ((ltb done budget && not full) && room) ≡ true
@@ -122,39 +122,39 @@ goes done budget full room e =
       and-right (ltb done budget && not full) room e,
     )
 
-steps-more : (answer : StepAnswer) (done : ℕ) → (stops answer ≡ true) ⊎ (done < steps answer done)
+steps-more : (answer : StepAnswer) (done : ℕ) → (stops answer ≡ true) ⊎ (done < stepsAfter answer done)
 steps-more (Done e) done = inr (omega arith)
 steps-more (NotDone why) done = inl refl
 
-steps-most : (answer : StepAnswer) (done budget : ℕ) → done < budget → steps answer done ≤ budget
+steps-most : (answer : StepAnswer) (done budget : ℕ) → done < budget → stepsAfter answer done ≤ budget
 steps-most (Done e) done budget h = omega (arith, h)
 steps-most (NotDone why) done budget h = omega (arith, h)
 
-module _ (setup : Setup) (budget : ℕ) (paths : List Path) (first g : Logging) (l : Logs setup budget paths first g)
-    (h : g .running .done < budget) (f : g .running .full ≡ false) (room : hasRoom (g .page .out) (g .page .at) ≡ true) (i : ℕ)
-    (here : i ≡ placeIn (g .running .channel .phase)) (later : Logging) (is : later ≡ logStep (getD paths i noPath) g) where
+module _ (setup : Setup) (budget : ℕ) (routes : List Route) (first g : Logging) (l : Logs setup budget routes first g)
+    (h : g .running .done < budget) (f : g .running .full ≡ false) (room : hasRoomIn (g .page .out) (g .page .at) ≡ true) (i : ℕ)
+    (here : i ≡ ownerPlace (g .running .channel .phase)) (later : Logging) (is : later ≡ logStep (getD routes i noRoute) g) where
   abbrev w : Running
   w = g .running
 
-  abbrev path : Path
-  path = getD paths (placeIn (w .channel .phase)) noPath
+  abbrev route : Route
+  route = getD routes (ownerPlace (w .channel .phase)) noRoute
 
   abbrev answer : StepAnswer
-  answer = decidedIn path (w .channel) (w .tally) .acted .answer
+  answer = decidedIn route (w .channel) (w .tally) .acted .answer
 
-  one : OneStep setup w (stepRun path w) answer
-  one = stepped setup paths w (l .going)
+  one : OneStep setup w (stepRun route w) answer
+  one = stepped setup routes w (l .going)
 
-  later-is : later ≡ record { running = stepRun path w; page = lineBy answer (g .page) }
+  later-is : later ≡ record { running = stepRun route w; page = pageBy answer (g .page) }
   unfolding logStep
   later-is = is ∙ rw here
 
-  pub logs-on : Logs setup budget paths first later
+  pub logs-on : Logs setup budget routes first later
   logs-on =
       rw later-is
       (record {
-        going = go-on setup paths w (stepRun path w) (l .going) (one .ready) (one .shaped) (one .ways);
-        same = log-once setup budget w (stepRun path w) (g .page) answer f h room one ∙ l .same;
+        going = go-on setup routes w (stepRun route w) (l .going) (one .ready) (one .shaped) (one .ways);
+        same = log-once setup budget w (stepRun route w) (g .page) answer f h room one ∙ l .same;
         least = rw (one .done) (steps-most answer (w .done) budget h);
       })
 
@@ -162,9 +162,9 @@ module _ (setup : Setup) (budget : ℕ) (paths : List Path) (first g : Logging) 
   logs-more = rw (later-is, one .full, one .done) (steps-more answer (w .done))
 
 -- where it ends: the budget is used up, the clock is full, or the page is
-pub log-finished : (setup : Setup) (budget : ℕ) (g : Logging) (room : Bool) → room ≡ hasRoom (g .page .out) (g .page .at)
+pub log-finished : (setup : Setup) (budget : ℕ) (g : Logging) (room : Bool) → room ≡ hasRoomIn (g .page .out) (g .page .at)
     → ((ltb (g .running .done) budget && not (g .running .full)) && room) ≡ false → g .running .done ≤ budget
-    → logToCome setup budget g ≡ closed (verdictIf (g .running .full)) (g .running .done) (worldOf (g .running)) (g .page)
+    → logToCome setup budget g ≡ closed (verdictOf (g .running .full)) (g .running .done) (worldOf (g .running)) (g .page)
 unfolding logToCome logFrom
 log-finished setup budget g room r e l =
     by-test (g .running .full)

@@ -17,14 +17,14 @@ use Rattle.channel.specs.declared.Asked.{Asked}
 use Rattle.channel.specs.declared.Asked.the-variants.{Never, At}
 use Rattle.channel.specs.declared.Channel.{Channel}
 use Rattle.channel.specs.declared.Request.{Request}
-use Rattle.channel.specs.Channel.{placeIn, requestOf, withRequest, changed, Shaped}
-use Rattle.channel.specs.Line.{isInactive, cleared, timed, line, lineActive, winner}
+use Rattle.channel.specs.Channel.{ownerPlace, requestOf, withRequest, changed, Shaped}
+use Rattle.channel.specs.Line.{isInactive, clearMarks, setAsked, line, lineActive, winner}
 use Rattle.channel.proofs.RequestLaws.{same-channel}
 use Rattle.sound.proofs.SoundFacts.{Sound, sound-is}
-use Rattle.act.specs.declared.Path.{Path}
+use Rattle.act.specs.declared.Route.{Route}
 use Rattle.act.specs.declared.Ending.{Ending}
 use Rattle.act.specs.declared.Ending.the-variants.{Kept, Released, Marked}
-use Rattle.act.specs.Cycle.{pathOf, cycleOf, isKept, isMarked, endingAt, clocked, freed, endedBy, movedOn, cycleEntry, cycleTurn}
+use Rattle.act.specs.Cycle.{routeOf, cycleOf, isKept, isMarked, endingAt, clocked, freed, endedBy, movedOn, cycleEntry, cycleTurn}
 use Rattle.act.specs.Turn.{arbitrationTime, granted, grantTurn, leaveTurn}
 use Rattle.tally.specs.declared.Tally.{Tally}
 use Rattle.step.specs.declared.Stepped.{Stepped}
@@ -50,13 +50,13 @@ use Rattle.step.specs.inner.Machine.{
   decidedMarks,
   steppedBy,
   channelOf,
-  pathFor,
+  routeFor,
   Actable,
   decisionBy,
 }
 use Rattle.step.specs.inner.Turns.{decidedIn, marksIn}
 use Rattle.step.proofs.PlanLaws.{roomy}
-use Rattle.step.proofs.KeepLaws.{pathAt, nextCycle}
+use Rattle.step.proofs.KeepLaws.{routeAt, nextCycle}
 use Rattle.step.proofs.QuietLaws.{cycle-quiet, leave-quiet}
 
 -- a request put back as it is
@@ -82,31 +82,31 @@ module _ (ch : Channel) (o : ℕ) (active : isInactive (ch .inactive) o ≡ fals
   put-ended (Released hold) clock slot = rw unmarked
   put-ended (Marked hold) clock slot = refl
 
-module _ (setup : Setup) (ch : Channel) (t : Tally) (s m : ℕ) (r : Ready setup ch s m) (k : Shaped ch) (path : Path)
-    (way : (o : ℕ) → ch .phase ≡ Granted o → eqb (getD (ch .left) o 0) 0 ≡ false → path ≡ pathOf setup o (requestOf ch o)) where
+module _ (setup : Setup) (ch : Channel) (t : Tally) (s m : ℕ) (r : Ready setup ch s m) (k : Shaped ch) (route : Route)
+    (way : (o : ℕ) → ch .phase ≡ Granted o → eqb (getD (ch .left) o 0) 0 ≡ false → route ≡ routeOf setup o (requestOf ch o)) where
   sound : Sound setup ch
   sound = sound-is setup ch (r .sound)
 
-  abbrev decidedAt : Path → Phase → Decided
-  decidedAt path p = decidedBy path (standingOf ch t) (requestOf ch (placeIn p)) (ch .left) (ch .inactive) p
+  abbrev decidedAt : Route → Phase → Decided
+  decidedAt route p = decidedBy route (standingOf ch t) (requestOf ch (ownerPlace p)) (ch .left) (ch .inactive) p
 
-  abbrev steppedAt : Path → Phase → Stepped
-  steppedAt path p =
+  abbrev steppedAt : Route → Phase → Stepped
+  steppedAt route p =
       record {
         channel =
             withRequest
-            (changed ch (decidedAt path p .acted .standing .phase) (decidedAt path p .acted .standing .asked)
-            (decidedAt path p .acted .standing .clock) (marksBy path (standingOf ch t) (requestOf ch (placeIn p)) (ch .left)
+            (changed ch (decidedAt route p .acted .standing .phase) (decidedAt route p .acted .standing .asked)
+            (decidedAt route p .acted .standing .clock) (marksBy route (standingOf ch t) (requestOf ch (ownerPlace p)) (ch .left)
             (ch .inactive) p))
-            (placeIn p)
-            (decidedAt path p .slot);
-        tally = decidedAt path p .acted .standing .tally;
-        answer = decidedAt path p .acted .answer;
+            (ownerPlace p)
+            (decidedAt route p .slot);
+        tally = decidedAt route p .acted .standing .tally;
+        answer = decidedAt route p .acted .answer;
       }
 
   -- a step of this phase comes to this plan
-  abbrev Comes : Path → Phase → Plan → Type 0
-  Comes path p plan = (steppedAt path p ≡ tallied t (advancedBy setup ch plan)) × (decidedAt path p .carry ≡ carryBy setup ch plan)
+  abbrev Comes : Route → Phase → Plan → Type 0
+  Comes route p plan = (steppedAt route p ≡ tallied t (advancedBy setup ch plan)) × (decidedAt route p .carry ≡ carryBy setup ch plan)
 
   -- an arbitration: the clock is full, or the winner is granted
   abbrev wins : ℕ
@@ -118,8 +118,8 @@ module _ (setup : Setup) (ch : Channel) (t : Tally) (s m : ℕ) (r : Ready setup
       (cond (lineActive (ch .left) (grantMarks (ch .left) (ch .inactive)) (Granted wins)) (At (ch .clock + arbitrationTime)) Never)
       (ch .clock + arbitrationTime) (grantMarks (ch .left) (ch .inactive))
 
-  arbitrating : Comes path Arbitrating (phasePlan setup ch Arbitrating)
-  unfolding fullActed grantedBy marksLeft grantTurn granted cleared timed
+  arbitrating : Comes route Arbitrating (phasePlan setup ch Arbitrating)
+  unfolding fullActed grantedBy marksLeft grantTurn granted clearMarks setAsked
   arbitrating =
       by-test (ltb clockLimit (ch .clock + arbitrationTime))
       (λ full. (rw (full, put-same ch 0), rw full))
@@ -147,18 +147,18 @@ module _ (setup : Setup) (ch : Channel) (t : Tally) (s m : ℕ) (r : Ready setup
 
   -- an owner's cycle
   cycling : (o : ℕ) → ch .phase ≡ Granted o → eqb (getD (ch .left) o 0) 0 ≡ false
-      → Comes (pathOf setup o (requestOf ch o)) (Granted o) (requestPlan setup ch o (requestOf ch o))
-  unfolding fullActed pathOf cycleOf cycleDecided cycleActed standingAfter cycleMarks movedOn cycleEntry cycleTurn
+      → Comes (routeOf setup o (requestOf ch o)) (Granted o) (requestPlan setup ch o (requestOf ch o))
+  unfolding fullActed routeOf cycleOf cycleDecided cycleActed standingAfter cycleMarks movedOn cycleEntry cycleTurn
   cycling o e n =
       by-test (ltb clockLimit (ch .clock + nextCycle setup ch o .time))
       (λ full. (rw (n, full, put-same ch o), rw (n, full)))
       (λ room.
       let c = nextCycle setup ch o in
       let quiet = cycle-quiet setup (r .framed) ch k sound o e (rw n) (ltb-false clockLimit _ room) in
-      let put = put-ended ch o (sound .settled .owner o e .active) (endingAt (pathAt setup ch o) ch c) (ch .clock + c .time) (c .rest) in
+      let put = put-ended ch o (sound .settled .owner o e .active) (endingAt (routeAt setup ch o) ch c) (ch .clock + c .time) (c .rest) in
       (rw (n, room, quiet, put), rw (n, room)))
 
-  pub made-phase : (p : Phase) → ch .phase ≡ p → Comes path p (phasePlan setup ch p)
+  pub made-phase : (p : Phase) → ch .phase ≡ p → Comes route p (phasePlan setup ch p)
   unfolding ownerPlan
   made-phase Arbitrating e = arbitrating
   made-phase (Granted o) e =
@@ -166,20 +166,20 @@ module _ (setup : Setup) (ch : Channel) (t : Tally) (s m : ℕ) (r : Ready setup
       (λ z. rw z (resting o e (ch .asked) refl))
       (λ n. rw (way o e n) (cycling o e n))
 
-  pub made : (steppedBy ch (decidedIn path ch t) (marksIn path ch t) ≡ tallied t (advancedBy setup ch (actPlan setup ch)))
-      × (decidedIn path ch t .carry ≡ carryBy setup ch (actPlan setup ch))
+  pub made : (steppedBy ch (decidedIn route ch t) (marksIn route ch t) ≡ tallied t (advancedBy setup ch (actPlan setup ch)))
+      × (decidedIn route ch t .carry ≡ carryBy setup ch (actPlan setup ch))
   unfolding decidedOf decidedMarks actPlan
   made = made-phase (ch .phase) refl
 
 -- what the act relies on
-pub actable-by : (setup : Setup) (ch : Channel) (t : Tally) (s m : ℕ) → Ready setup ch s m → (path : Path)
-    → ((o : ℕ) → ch .phase ≡ Granted o → eqb (getD (ch .left) o 0) 0 ≡ false → path ≡ pathOf setup o (requestOf ch o))
-    → Actable path (standingOf ch t) (requestOf ch (placeIn (ch .phase)))
-actable-by setup ch t s m r path way =
+pub actable-by : (setup : Setup) (ch : Channel) (t : Tally) (s m : ℕ) → Ready setup ch s m → (route : Route)
+    → ((o : ℕ) → ch .phase ≡ Granted o → eqb (getD (ch .left) o 0) 0 ≡ false → route ≡ routeOf setup o (requestOf ch o))
+    → Actable route (standingOf ch t) (requestOf ch (ownerPlace (ch .phase)))
+actable-by setup ch t s m r route way =
     record {
       small = λ o e. omega (arith, sound-is setup ch (r .sound) .settled .owner o e .small);
       way = λ o e n.
-          let some : eqb (getD (ch .left) o 0) 0 ≡ false = sym (ap (λ (x : Phase). eqb (getD (ch .left) (placeIn x) 0) 0) e) ∙ n in
+          let some : eqb (getD (ch .left) o 0) 0 ≡ false = sym (ap (λ (x : Phase). eqb (getD (ch .left) (ownerPlace x) 0) 0) e) ∙ n in
           rw (e, way o e some) (roomy setup ch o s m r e some .way);
     }
 
@@ -188,29 +188,29 @@ module _ (setup : Setup) (ch : Channel) (t : Tally) (s m : ℕ) (r : Ready setup
   small : (o : ℕ) → ch .phase ≡ Granted o → o < places
   small o e = omega (arith, sound-is setup ch (r .sound) .settled .owner o e .small)
 
-  pub place-small : placeIn (ch .phase) < places
+  pub place-small : ownerPlace (ch .phase) < places
   place-small = below (ch .phase) refl
     where
-      below : (p : Phase) → ch .phase ≡ p → placeIn p < places
+      below : (p : Phase) → ch .phase ≡ p → ownerPlace p < places
       below Arbitrating e = omega arith
       below (Granted o) e = small o e
 
-  module _ (at : ℕ) (place : at ≡ placeIn (ch .phase)) (q : Request) (request : q ≡ requestOf ch at) (path : Path)
-      (way : path ≡ pathFor setup at q) where
-    path-is : (o : ℕ) → ch .phase ≡ Granted o → eqb (getD (ch .left) o 0) 0 ≡ false → path ≡ pathOf setup o (requestOf ch o)
-    path-is o e n = rw (way, request, place, e, n)
+  module _ (at : ℕ) (place : at ≡ ownerPlace (ch .phase)) (q : Request) (request : q ≡ requestOf ch at) (route : Route)
+      (way : route ≡ routeFor setup at q) where
+    route-is : (o : ℕ) → ch .phase ≡ Granted o → eqb (getD (ch .left) o 0) 0 ≡ false → route ≡ routeOf setup o (requestOf ch o)
+    route-is o e n = rw (way, request, place, e, n)
 
-    pub actable : Actable path (standingOf ch t) q
-    actable = rw (request, place) (actable-by setup ch t s m r path path-is)
+    pub actable : Actable route (standingOf ch t) q
+    actable = rw (request, place) (actable-by setup ch t s m r route route-is)
 
     pub decision-made : (d : Decided) (marks : List Bool) (after : Channel) → d
-        ≡ decidedOf path (standingOf ch t) q (ch .left) (ch .inactive)
-        → marks ≡ decidedMarks path (standingOf ch t) q (ch .left) (ch .inactive)
+        ≡ decidedOf route (standingOf ch t) q (ch .left) (ch .inactive)
+        → marks ≡ decidedMarks route (standingOf ch t) q (ch .left) (ch .inactive)
         → after ≡ channelOf (d .acted .standing) marks (set (ch .direction) at (d .slot .direction)) (set (ch .space) at (d .slot .space))
         (set (ch .address) at (d .slot .address)) (set (ch .left) at (d .slot .left)) (set (ch .offset) at (d .slot .offset))
         → record { stepped = record { channel = after; tally = d .acted .standing .tally; answer = d .acted .answer }; carry = d .carry }
         ≡ decisionBy setup ch t (actPlan setup ch)
     unfolding withRequest
     decision-made d marks after e f g =
-        let x = made setup ch t s m r k path path-is in
+        let x = made setup ch t s m r k route route-is in
         rw (g, f, e, request, place) (λ i. record { stepped = x .0 i; carry = x .1 i })

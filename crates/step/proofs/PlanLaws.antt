@@ -28,12 +28,12 @@ use Rattle.channel.specs.Slave.{slaveOf}
 use Rattle.sound.specs.Sound.{isSound}
 use Rattle.sound.proofs.SoundFacts.{sound-is}
 use Rattle.sound.proofs.RequestFacts.{fits-is, slave-facts-of}
-use Rattle.act.specs.declared.Path.{Path}
-use Rattle.act.specs.Cycle.{pathOf, cycleEntry, cycleTurn}
+use Rattle.act.specs.declared.Route.{Route}
+use Rattle.act.specs.Cycle.{routeOf, cycleEntry, cycleTurn}
 use Rattle.act.specs.Turn.{arbitrationTime, grantTurn, leaveTurn}
 use Rattle.step.specs.declared.Plan.{Plan}
 use Rattle.step.specs.declared.Plan.the-variants.{Idle, Refused, Grant, Leave, Cycle}
-use Rattle.step.specs.Plan.{nextOf, timed, ownerPlan, phasePlan, actPlan, readyVerdict, planBy, planOf}
+use Rattle.step.specs.Plan.{nextOf, withinClock, ownerPlan, phasePlan, actPlan, readyVerdict, planBy, planOf}
 use Rattle.step.specs.declared.StepAnswer.the-variants.{Refused as NotDone}
 use Rattle.step.specs.declared.Carry.{Carry}
 use Rattle.step.specs.inner.Machine.{planIn}
@@ -51,9 +51,9 @@ Says setup ch p (Cycle o) =
     × (ch .clock + nextOf setup o (requestOf ch o) .time ≤ clockLimit)
 
 -- a plan that takes time is made only where the clock has room for it
-timed-says : (setup : Setup) (ch : Channel) (p : Phase) (time : ℕ) (plan : Plan) → (ch .clock + time ≤ clockLimit → Says setup ch p plan)
-    → Says setup ch p (timed ch time plan)
-timed-says setup ch p time plan h =
+within-says : (setup : Setup) (ch : Channel) (p : Phase) (time : ℕ) (plan : Plan) → (ch .clock + time ≤ clockLimit → Says setup ch p plan)
+    → Says setup ch p (withinClock ch time plan)
+within-says setup ch p time plan h =
     by-test (ltb clockLimit (ch .clock + time))
     (λ t. rw t refl)
     (λ f. rw f (h (ltb-false clockLimit (ch .clock + time) f)))
@@ -63,11 +63,11 @@ unfolding ownerPlan
 owner-says setup ch o =
     by-test (eqb (getD (ch .left) o 0) 0)
     (λ z. rw z (by-test (line ch) (λ t. rw t (refl, z, t)) (λ f. rw f (o, refl, z, f))))
-    (λ n. rw n (timed-says setup ch (Granted o) (nextOf setup o (requestOf ch o) .time) (Cycle o) (λ h. (refl, n, h))))
+    (λ n. rw n (within-says setup ch (Granted o) (nextOf setup o (requestOf ch o) .time) (Cycle o) (λ h. (refl, n, h))))
 
 phase-says : (setup : Setup) (ch : Channel) (p : Phase) → Says setup ch p (phasePlan setup ch p)
 phase-says setup ch Arbitrating =
-    timed-says setup ch Arbitrating arbitrationTime (Grant (winner (ch .left) (ch .inactive))) (λ h. (refl, refl, h))
+    within-says setup ch Arbitrating arbitrationTime (Grant (winner (ch .left) (ch .inactive))) (λ h. (refl, refl, h))
 phase-says setup ch (Granted o) = owner-says setup ch o
 
 pub says : (setup : Setup) (ch : Channel) (plan : Plan) → actPlan setup ch ≡ plan → Says setup ch (ch .phase) plan
@@ -77,8 +77,8 @@ says setup ch plan e = rw e at (phase-says setup ch (ch .phase))
 -- the owner's request on a sound channel over stores of the right lengths has room in its row and in both stores
 pub roomy : (setup : Setup) (ch : Channel) (o slave master : ℕ) → Ready setup ch slave master → ch .phase ≡ Granted o
     → eqb (getD (ch .left) o 0) 0 ≡ false
-    → Roomy (pathOf setup o (requestOf ch o)) (requestOf ch o) slave master
-unfolding pathOf
+    → Roomy (routeOf setup o (requestOf ch o)) (requestOf ch o) slave master
+unfolding routeOf
 roomy setup ch o slave master r phase some =
     let s = sound-is setup ch (r .sound) .settled in
     let g = s .owner o phase in
@@ -104,7 +104,7 @@ roomy setup ch o slave master r phase some =
 
 -- so it has where a cycle is planned
 pub planned-roomy : (setup : Setup) (ch : Channel) (o slave master : ℕ) → Ready setup ch slave master → actPlan setup ch ≡ Cycle o
-    → Roomy (pathOf setup o (requestOf ch o)) (requestOf ch o) slave master
+    → Roomy (routeOf setup o (requestOf ch o)) (requestOf ch o) slave master
 planned-roomy setup ch o slave master r e = let p = says setup ch (Cycle o) e in roomy setup ch o slave master r (p .0) (p .1)
 
 -- a call that is refused by neither 9 nor 8 is ready, and its plan is the act's
@@ -163,9 +163,9 @@ refused-still setup ch (Leave o) why slave master e = let z : _≡_ {A = ℕ} 0 
 refused-still setup ch (Cycle o) why slave master e = let z : _≡_ {A = ℕ} 0 1 = cc in absurd (omega arith)
 
 -- a cycle's bytes are some of those that are left, so there is room for them too
-pub carry-room : (path : Path) (q : Request) (s m : ℕ) → Roomy path q s m → Room (carryOf path q) s m
+pub carry-room : (route : Route) (q : Request) (s m : ℕ) → Roomy route q s m → Room (carryOf route q) s m
 unfolding carryOf
-carry-room path q s m a = record { slave = omega (arith, a .slave); master = omega (arith, a .master) }
+carry-room route q s m a = record { slave = omega (arith, a .slave); master = omega (arith, a .master) }
 
 -- the lengths of the stores after bytes were carried
 pub carried-lengths : (c : Carry) (slave master : List ℕ) → Room c (length slave) (length master)
@@ -177,7 +177,7 @@ carried-lengths c slave master a =
     (λ f. rw f (length-paste slave (c .place) _ (c .bytes) (a .slave) (rw length-drop (omega (arith, a .master))), refl))
 
 -- and so after a cycle
-pub moved-lengths : (path : Path) (q : Request) (slave master : List ℕ) → Roomy path q (length slave) (length master)
-    → (length (movedSlave (carryOf path q) slave master) ≡ length slave) ×
-    (length (movedMaster (carryOf path q) slave master) ≡ length master)
-moved-lengths path q slave master a = carried-lengths (carryOf path q) slave master (carry-room path q (length slave) (length master) a)
+pub moved-lengths : (route : Route) (q : Request) (slave master : List ℕ) → Roomy route q (length slave) (length master)
+    → (length (movedSlave (carryOf route q) slave master) ≡ length slave) ×
+    (length (movedMaster (carryOf route q) slave master) ≡ length master)
+moved-lengths route q slave master a = carried-lengths (carryOf route q) slave master (carry-room route q (length slave) (length master) a)

@@ -15,9 +15,9 @@ use Rattle.channel.specs.declared.Asked.{Asked}
 use Rattle.channel.specs.declared.Asked.the-variants.{Never, At}
 use Rattle.channel.specs.declared.Channel.{Channel}
 use Rattle.channel.specs.declared.Request.{Request}
-use Rattle.channel.specs.Channel.{placeIn, hasRequest, requestOf, withRequest, changed}
+use Rattle.channel.specs.Channel.{ownerPlace, hasRequest, requestOf, withRequest, changed}
 use Rattle.channel.specs.Line.{isInactive, waits}
-use Rattle.act.specs.declared.Path.{Path}
+use Rattle.act.specs.declared.Route.{Route}
 use Rattle.act.specs.declared.Ending.{Ending}
 use Rattle.act.specs.declared.Ending.the-variants.{Kept, Released, Marked}
 use Rattle.act.specs.declared.Entry.{Entry}
@@ -39,7 +39,7 @@ use Rattle.step.specs.inner.Machine.{
   grantedBy,
   restActed,
   standingAfter,
-  stays,
+  stayOf,
 }
 use Rattle.step.specs.inner.Turns.{
   Running,
@@ -51,7 +51,7 @@ use Rattle.step.specs.inner.Turns.{
   held,
   tenureOf,
   afterHeld,
-  onward,
+  steppedOn,
   cyclesRun,
   turnBy,
   turnOf,
@@ -91,27 +91,27 @@ module _ (s : State) (inactive : List Bool) (direction space address left offset
       (put-ended was o active (h .tenure .ending) (h .tenure .clock) (h .tenure .request)))
 
 -- a step that moves nothing and leaves the requests
-module _ (path : Path) (w : Running) (a : Acted) (marks : List Bool)
-    (d : stays a (requestOf (w .channel) (placeIn (w .channel .phase))) ≡ decidedIn path (w .channel) (w .tally))
-    (m : marks ≡ marksIn path (w .channel) (w .tally)) where
+module _ (route : Route) (w : Running) (a : Acted) (marks : List Bool)
+    (d : stayOf a (requestOf (w .channel) (ownerPlace (w .channel .phase))) ≡ decidedIn route (w .channel) (w .tally))
+    (m : marks ≡ marksIn route (w .channel) (w .tally)) where
   abbrev left-as : Channel
   left-as = changed (w .channel) (a .standing .phase) (a .standing .asked) (a .standing .clock) marks
 
   pub stays-done : (e : Entry) → a .answer ≡ Done e
       → record { channel = left-as; tally = a .standing .tally; done = w .done + 1; full = false; slave = w .slave; master = w .master }
-      ≡ stepRun path w
+      ≡ stepRun route w
   unfolding stepRun
   stays-done e q =
       let x = still (w .slave) (w .master) in
-      rw (← d, ← m, q, put-same left-as (placeIn (w .channel .phase)), x .0, x .1)
+      rw (← d, ← m, q, put-same left-as (ownerPlace (w .channel .phase)), x .0, x .1)
 
   pub stays-full : a ≡ fullActed (standingOf (w .channel) (w .tally)) → marks ≡ w .channel .inactive
       → record { channel = w .channel; tally = w .tally; done = w .done; full = true; slave = w .slave; master = w .master }
-      ≡ stepRun path w
+      ≡ stepRun route w
   unfolding stepRun fullActed
   stays-full q same =
       let x = still (w .slave) (w .master) in
-      rw (← d, ← m, q, same, put-same (w .channel) (placeIn (w .channel .phase)), x .0, x .1)
+      rw (← d, ← m, q, same, put-same (w .channel) (ownerPlace (w .channel .phase)), x .0, x .1)
 
 -- a release or an idle step is always done
 rests : (asked : Asked) (s : Standing) (o : ℕ) → (e : Entry) × (restActed asked s o .answer ≡ Done e)
@@ -119,53 +119,53 @@ rests Never s o = (_, refl)
 rests (At t) s o = (_, refl)
 
 -- each kind of turn, from what its calls said
-module _ (path : Path) (budget : ℕ) (s : State) (inactive : List Bool) (direction space address left offset slave master : List ℕ) where
+module _ (route : Route) (budget : ℕ) (s : State) (inactive : List Bool) (direction space address left offset slave master : List ℕ) where
   abbrev before : Running
   before = runningOf s inactive direction space address left offset slave master
 
   module _ (p : s .standing .phase ≡ Arbitrating) where
-    arbitrates : stepRun path before ≡ turnOf path budget before
+    arbitrates : stepRun route before ≡ turnOf route budget before
     unfolding turnOf
-    arbitrates = sym (ap (turnBy path budget before) p)
+    arbitrates = sym (ap (turnBy route budget before) p)
 
     pub turn-full : (low : ℕ) → ltb clockLimit (s .standing .clock + arbitrationTime) ≡ true
         → runningOf (record { standing = s .standing; done = s .done; full = true; low = low }) inactive direction space address left
         offset slave master
-        ≡ turnOf path budget before
+        ≡ turnOf route budget before
     turn-full low t =
-        let x = decides-full path (s .standing) (requestOf (before .channel) (placeIn (s .standing .phase))) left inactive p _ t refl in
-        stays-full path before (fullActed (s .standing)) inactive (x .0) (x .1) refl refl ∙ arbitrates
+        let x = decides-full route (s .standing) (requestOf (before .channel) (ownerPlace (s .standing .phase))) left inactive p _ t refl in
+        stays-full route before (fullActed (s .standing)) inactive (x .0) (x .1) refl refl ∙ arbitrates
 
     pub turn-grant : (r : State) (a : Acted) (marks : List Bool) (base : ℕ) (c : Chosen)
         → ltb clockLimit (s .standing .clock + arbitrationTime) ≡ false → IsChosen left inactive marks base c
-        → a ≡ grantedBy (s .standing) (c .winner) (c .active) → r ≡ onward a (s .done) (c .low)
-        → runningOf r marks direction space address left offset slave master ≡ turnOf path budget before
+        → a ≡ grantedBy (s .standing) (c .winner) (c .active) → r ≡ steppedOn a (s .done) (c .low)
+        → runningOf r marks direction space address left offset slave master ≡ turnOf route budget before
     unfolding grantedBy
     turn-grant r a marks base c f i g e =
         let b = grantedBy (s .standing) (c .winner) (c .active) in
-        let x = decides-grant path (s .standing) (requestOf (before .channel) (placeIn (s .standing .phase))) left inactive p _ marks base
+        let x = decides-grant route (s .standing) (requestOf (before .channel) (ownerPlace (s .standing .phase))) left inactive p _ marks base
         c f i refl in
-        rw (e, g) (stays-done path before b marks (x .0) (x .1) _ refl) ∙ arbitrates
+        rw (e, g) (stays-done route before b marks (x .0) (x .1) _ refl) ∙ arbitrates
 
   module _ (o : ℕ) (p : s .standing .phase ≡ Granted o) where
-    rested : getD left o 0 ≡ 0 → stepRun path before ≡ turnOf path budget before
+    rested : getD left o 0 ≡ 0 → stepRun route before ≡ turnOf route budget before
     unfolding turnOf
-    rested z = sym (ap (turnBy path budget before) p ∙ rw (eq-eqb (getD left o 0) 0 z))
+    rested z = sym (ap (turnBy route budget before) p ∙ rw (eq-eqb (getD left o 0) 0 z))
 
     pub turn-rest : (r : State) (a : Acted) (low : ℕ) → getD left o 0 ≡ 0 → a ≡ restActed (s .standing .asked) (s .standing) o
-        → r ≡ onward a (s .done) low → runningOf r inactive direction space address left offset slave master ≡ turnOf path budget before
+        → r ≡ steppedOn a (s .done) low → runningOf r inactive direction space address left offset slave master ≡ turnOf route budget before
     turn-rest r a low z g e =
         let b = restActed (s .standing .asked) (s .standing) o in
-        let none = ap (λ (y : Phase). eqb (getD left (placeIn y) 0) 0) p ∙ eq-eqb (getD left o 0) 0 z in
-        let x = decides-rest path (s .standing) (requestOf (before .channel) (placeIn (s .standing .phase))) left inactive o p _ none
+        let none = ap (λ (y : Phase). eqb (getD left (ownerPlace y) 0) 0) p ∙ eq-eqb (getD left o 0) 0 z in
+        let x = decides-rest route (s .standing) (requestOf (before .channel) (ownerPlace (s .standing .phase))) left inactive o p _ none
         refl in
         let q = rests (s .standing .asked) (s .standing) o in
-        rw (e, g) (stays-done path before b inactive (x .0) (x .1) (q .0) (q .1)) ∙ rested z
+        rw (e, g) (stays-done route before b inactive (x .0) (x .1) (q .0) (q .1)) ∙ rested z
 
-    pub turn-cycles : (later : Running) → (getD left o 0 ≡ 0 → ⊥) → later ≡ cyclesRun path budget o before → later
-        ≡ turnOf path budget before
+    pub turn-cycles : (later : Running) → (getD left o 0 ≡ 0 → ⊥) → later ≡ cyclesRun route budget o before → later
+        ≡ turnOf route budget before
     unfolding turnOf
-    turn-cycles later n e = e ∙ sym (ap (turnBy path budget before) p ∙ rw (ne-eqb (getD left o 0) 0 n))
+    turn-cycles later n e = e ∙ sym (ap (turnBy route budget before) p ∙ rw (ne-eqb (getD left o 0) 0 n))
 
 -- where the next search may begin
 module _ (base low : ℕ) (ch : Channel) (x : Lows base low ch) where
@@ -177,7 +177,7 @@ module _ (base low : ℕ) (ch : Channel) (x : Lows base low ch) where
   rest-lows (At t) s o e = record { most = x .most; small = x .small; none = x .none; clear = x .clear; owner = x .small }
 
   pub lows-rest : (r : State) (a : Acted) (s : Standing) (o done : ℕ) → s .phase ≡ ch .phase → a ≡ restActed (s .asked) s o → r
-      ≡ onward a done low
+      ≡ steppedOn a done low
       → Lows base (r .low) (changed ch (r .standing .phase) (r .standing .asked) (r .standing .clock) (ch .inactive))
   lows-rest r a s o done p g e = rw (e, g) (rest-lows (s .asked) s o p)
 
@@ -195,7 +195,7 @@ module _ (base low : ℕ) (ch : Channel) (x : Lows base low ch) where
 
   pub lows-grant : (r : State) (a : Acted) (s : Standing) (done : ℕ) (marks : List Bool) (c : Chosen)
       → IsChosen (ch .left) (ch .inactive) marks base c
-      → a ≡ grantedBy s (c .winner) (c .active) → r ≡ onward a done (c .low)
+      → a ≡ grantedBy s (c .winner) (c .active) → r ≡ steppedOn a done (c .low)
       → Lows base (r .low) (changed ch (r .standing .phase) (r .standing .asked) (r .standing .clock) marks)
   unfolding grantedBy
   lows-grant r a s done marks c i g e = rw (e, g) (grant-lows marks c (grantedBy s (c .winner) (c .active) .standing) i refl)
@@ -251,9 +251,9 @@ module _ (base low : ℕ) (ch : Channel) (x : Lows base low ch) where
         }
 
 -- an owner's cycles leave it so
-pub lows-cycles : (path : Path) (budget base low o : ℕ) (w : Running) → Lows base low (w .channel) → w .channel .phase ≡ Granted o
-    → hasRequest (w .channel .left) o ≡ true → (later : Running) (k : ℕ) → k ≡ low → later ≡ cyclesRun path budget o w
+pub lows-cycles : (route : Route) (budget base low o : ℕ) (w : Running) → Lows base low (w .channel) → w .channel .phase ≡ Granted o
+    → hasRequest (w .channel .left) o ≡ true → (later : Running) (k : ℕ) → k ≡ low → later ≡ cyclesRun route budget o w
     → Lows base k (later .channel)
-lows-cycles path budget base low o w x p some later k e f =
-    let t = held path (w .channel .asked) (budget - w .done) (tenureOf w o) (w .slave) (w .master) .tenure in
+lows-cycles route budget base low o w x p some later k e f =
+    let t = held route (w .channel .asked) (budget - w .done) (tenureOf w o) (w .slave) (w .master) .tenure in
     rw (e, f) (lows-held base low (w .channel) x o p some (t .clock) (t .request) (t .ending))

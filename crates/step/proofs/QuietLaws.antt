@@ -21,7 +21,7 @@ use Rattle.sound.proofs.SoundFacts.{Sound}
 use Rattle.sound.proofs.RuleLaws.{rule-same}
 use Rattle.act.specs.Cycle.{releasedBy, endingOf, endingAt, clocked, freed, markedAt, endedBy, movedOn}
 use Rattle.step.proofs.KeepLaws.{
-  pathAt,
+  routeAt,
   nextCycle,
   clockAt,
   movedAt,
@@ -73,7 +73,7 @@ module _ (setup : Setup) (framed : isFramed setup ≡ true) (ch : Channel) (shap
       (kept-open setup framed ch shaped s o phase asks room) marks same
 
   released-sound : (a : Asked) → ch .asked ≡ a
-      → Sound setup (endedBy (releasedBy (pathAt setup ch o .options) a (clockAt setup ch o)) (movedAt setup ch o) o)
+      → Sound setup (endedBy (releasedBy (routeAt setup ch o .options) a (clockAt setup ch o)) (movedAt setup ch o) o)
   unfolding freed movedOn clocked withRequest
   released-sound Never a =
       record {
@@ -83,7 +83,7 @@ module _ (setup : Setup) (framed : isFramed setup ≡ true) (ch : Channel) (shap
       }
   released-sound (At t) a =
       let settled = released-settled setup framed ch shaped s o phase asks room (At t) in
-      by-test (isFair (pathAt setup ch o .options))
+      by-test (isFair (routeAt setup ch o .options))
       (λ f.
       rw f
       (record {
@@ -109,7 +109,7 @@ module _ (setup : Setup) (framed : isFramed setup ≡ true) (ch : Channel) (shap
   pub cycle-quiet : lineRule (endedAt setup ch o) ≡ endedAt setup ch o
   cycle-quiet =
       rule-same setup (endedAt setup ch o)
-      (ended-shaped (endingAt (pathAt setup ch o) ch (nextCycle setup ch o)) (movedAt setup ch o) o
+      (ended-shaped (endingAt (routeAt setup ch o) ch (nextCycle setup ch o)) (movedAt setup ch o) o
       (moved-shaped ch o (nextCycle setup ch o) shaped))
       ended-sound
 

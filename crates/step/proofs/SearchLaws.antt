@@ -1,4 +1,4 @@
--- Searches from a level on: who waits behind the winner, and which levels a search may leave out.
+-- Searches from a level on: who waits above the winner, and which levels a search may leave out.
 use Prim.Native.Nat.{ℕ, zero, suc, _+_, _-_, _≤_, _<_}
 use mathlib.Core.Path.{_≡_, sym, ap, _∙_}
 use mathlib.Core.Bool.{Bool, true, false, false≢true}
@@ -36,11 +36,11 @@ from-some f i (suc k) e =
     (λ t. (i, omega arith, omega arith, t))
     (λ n. let s = from-some f (suc i) k (rw n at e) in (s .0, omega (arith, s .1), omega (arith, s .2), s .3))
 
--- after a grant the line is active where a level behind the winner waits: no level before it does
-pub behind-winner : (left : List ℕ) (inactive : List Bool) (w : ℕ) → w ≡ winner left inactive
+-- after a grant the line is active where a level above the winner waits: no level below it does
+pub above-winner : (left : List ℕ) (inactive : List Bool) (w : ℕ) → w ≡ winner left inactive
     → lineActive left inactive (Granted w) ≡ waitsFrom left inactive (w + 1)
 unfolding waitsFrom waits
-behind-winner left inactive w e =
+above-winner left inactive w e =
     same-test (lineActive left inactive (Granted w)) (anyFrom (waits left inactive) (w + 1) (places - (w + 1)))
     (λ t.
     let d = line-some left inactive (Granted w) t in
@@ -109,12 +109,12 @@ module _ (left : List ℕ) (before : List Bool) (base low w : ℕ) (s : Search l
       (λ t. absurd (omega (arith, h, winner-lowest left before l (omega (arith, h, winner-small left before)) t)))
       (λ f. f)
 
-  -- some level behind the winner waits: the marks stay
+  -- some level above the winner waits: the marks stay
   pub chosen-active : waitsFrom left before (w + 1) ≡ true → IsChosen left before before base
       (record { winner = w; active = true; low = w })
   unfolding marksLeft
   chosen-active t =
-      let line = ap (λ (x : ℕ). lineActive left before (Granted x)) (sym is) ∙ behind-winner left before w is ∙ t in
+      let line = ap (λ (x : ℕ). lineActive left before (Granted x)) (sym is) ∙ above-winner left before w is ∙ t in
       record {
         won = is;
         marks = rw line;
@@ -141,7 +141,7 @@ module _ (left : List ℕ) (before : List Bool) (base low w : ℕ) (s : Search l
       → IsChosen left before (replicate places false) base (record { winner = w; active = active; low = base })
   unfolding marksLeft waits
   chosen-quiet active f e =
-      let line = ap (λ (x : ℕ). lineActive left before (Granted x)) (sym is) ∙ behind-winner left before w is ∙ f in
+      let line = ap (λ (x : ℕ). lineActive left before (Granted x)) (sym is) ∙ above-winner left before w is ∙ f in
       record {
         won = is;
         marks = rw line;

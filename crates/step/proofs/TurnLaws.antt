@@ -16,12 +16,12 @@ use Rattle.channel.specs.declared.Phase.the-variants.{Granted}
 use Rattle.channel.specs.declared.Channel.{Channel}
 use Rattle.channel.specs.declared.Request.{Request}
 use Rattle.channel.specs.Channel.{hasRequest, requestOf, Shaped}
-use Rattle.channel.specs.Line.{cleared, timed, lineRule}
+use Rattle.channel.specs.Line.{clearMarks, setAsked, lineRule}
 use Rattle.sound.specs.Sound.{isSound}
 use Rattle.sound.proofs.SoundFacts.{sound-is, sound-by}
-use Rattle.act.specs.declared.Path.{Path}
+use Rattle.act.specs.declared.Route.{Route}
 use Rattle.act.specs.declared.Entry.{Entry}
-use Rattle.act.specs.Cycle.{pathOf, endingAt, freed, cycleTurn}
+use Rattle.act.specs.Cycle.{routeOf, endingAt, freed, cycleTurn}
 use Rattle.act.specs.Turn.{granted, grantTurn, leaveTurn}
 use Rattle.act.proofs.EndingLaws.{ended-request}
 use Rattle.tally.specs.declared.Tally.{Tally}
@@ -32,10 +32,10 @@ use Rattle.step.specs.declared.StepAnswer.{StepAnswer}
 use Rattle.step.specs.declared.StepAnswer.the-variants.{Done, Refused as NotDone}
 use Rattle.step.specs.Plan.{actPlan, planOf}
 use Rattle.step.specs.Step.{Ready, Room, advancedBy, tallyBy, stepOf, slaveBy, masterBy, slaveAfter, masterAfter}
-use Rattle.step.specs.Run.{world, stepIn, after, runFrom}
-use Rattle.step.specs.inner.Turns.{Running, worldOf, toCome, steps, stops, decidedIn, stepRun}
+use Rattle.step.specs.Run.{world, stepIn, worldAfter, runFrom}
+use Rattle.step.specs.inner.Turns.{Running, worldOf, toCome, stepsAfter, stops, decidedIn, stepRun}
 use Rattle.step.proofs.PlanLaws.{says, plan-ready, planned-roomy, moved-lengths}
-use Rattle.step.proofs.KeepLaws.{step-sound, step-shaped, pathAt, nextCycle, restAt, movedAt, here, other, same-path}
+use Rattle.step.proofs.KeepLaws.{step-sound, step-shaped, routeAt, nextCycle, restAt, movedAt, here, other, same-route}
 use Rattle.step.proofs.CarryLaws.{carried, act-room}
 use Rattle.step.proofs.MachineLaws.{made}
 use Rattle.step.proofs.RunLaws.{run-more, run-stop}
@@ -44,14 +44,14 @@ use Rattle.step.proofs.RunLaws.{run-more, run-stop}
 abbrev pub SameWays : Setup → Channel → Channel → Type 0
 SameWays setup ch later =
     (l : ℕ) → hasRequest (later .left) l ≡ true
-    → (hasRequest (ch .left) l ≡ true) × (pathOf setup l (requestOf later l) ≡ pathOf setup l (requestOf ch l))
+    → (hasRequest (ch .left) l ≡ true) × (routeOf setup l (requestOf later l) ≡ routeOf setup l (requestOf ch l))
 
 -- one step between them, and what it answers
 pub record OneStep (setup : Setup) (w later : Running) (answer : StepAnswer) : Type 0 where
   -- it is the step of the definitions
   pub told : stepIn setup (worldOf w) .answer ≡ answer
-  pub next : after setup (worldOf w) ≡ worldOf later
-  pub done : later .done ≡ steps answer (w .done)
+  pub next : worldAfter setup (worldOf w) ≡ worldOf later
+  pub done : later .done ≡ stepsAfter answer (w .done)
   pub full : later .full ≡ stops answer
   -- nothing but the clock refuses it, and then all is as it was
   pub stopped : (why : Refusal) → answer ≡ NotDone why → (why ≡ refusalBy 6) × (worldOf later ≡ worldOf w)
@@ -126,7 +126,7 @@ turned-once setup budget w later (NotDone why) f h s =
 -- requests that stay go their way
 by-request : (setup : Setup) (ch later : Channel) → ((l : ℕ) → requestOf later l ≡ requestOf ch l) → SameWays setup ch later
 by-request setup ch later same l o =
-    (sym (ap (λ (q : Request). not (eqb (q .left) 0)) (same l)) ∙ o, ap (pathOf setup l) (same l))
+    (sym (ap (λ (q : Request). not (eqb (q .left) 0)) (same l)) ∙ o, ap (routeOf setup l) (same l))
 
 -- a step that is done is not refused
 not-refused : {e : Entry} {why : Refusal} → Done e ≡ NotDone why → ⊥
@@ -147,7 +147,7 @@ module _ (setup : Setup) (w : Running) (r : Ready setup (w .channel) (length (w 
       record {
         channel = advancedBy setup ch p .channel;
         tally = tallyBy (w .tally) (advancedBy setup ch p .answer);
-        done = steps (advancedBy setup ch p .answer) (w .done);
+        done = stepsAfter (advancedBy setup ch p .answer) (w .done);
         full = stops (advancedBy setup ch p .answer);
         slave = slaveBy setup ch p (w .slave) (w .master);
         master = masterBy setup ch p (w .slave) (w .master);
@@ -162,8 +162,8 @@ module _ (setup : Setup) (w : Running) (r : Ready setup (w .channel) (length (w 
     unfolding stepOf
     told-is = rw plan-is
 
-    next-is : after setup (worldOf w) ≡ worldOf (planned p)
-    unfolding after stepOf slaveAfter masterAfter
+    next-is : worldAfter setup (worldOf w) ≡ worldOf (planned p)
+    unfolding worldAfter stepOf slaveAfter masterAfter
     next-is = rw plan-is
 
     sound-after : isSound setup (advancedBy setup ch p .channel) ≡ true
@@ -189,7 +189,7 @@ module _ (setup : Setup) (w : Running) (r : Ready setup (w .channel) (length (w 
 
   -- what a cycle leaves goes the way of the whole
   rule-request : (x : Channel) (l : ℕ) → requestOf (lineRule x) l ≡ requestOf x l
-  unfolding cleared timed
+  unfolding clearMarks setAsked
   rule-request x l = refl
 
   cycle-ways : (o : ℕ) → actPlan setup ch ≡ plan.Cycle o → SameWays setup ch (advancedBy setup ch (plan.Cycle o) .channel)
@@ -197,24 +197,24 @@ module _ (setup : Setup) (w : Running) (r : Ready setup (w .channel) (length (w 
   cycle-ways o is l some =
       let y = says setup ch (plan.Cycle o) is in
       let z = sound-is setup ch (r .sound) in
-      let after = rule-request _ l ∙ ended-request (endingAt (pathAt setup ch o) ch (nextCycle setup ch o)) (movedAt setup ch o) o l in
+      let same = rule-request _ l ∙ ended-request (endingAt (routeAt setup ch o) ch (nextCycle setup ch o)) (movedAt setup ch o) o l in
       by-test (eqb l o)
       (λ t.
       let e = eqb-true l o t in
-      let q = after ∙ here setup (r .framed) ch k z o (y .0) (rw (y .1)) (y .2) l e in
+      let q = same ∙ here setup (r .framed) ch k z o (y .0) (rw (y .1)) (y .2) l e in
       let left = eqb-false (restAt setup ch o .left) 0 (not-true _ (sym (ap (λ (x : Request). not (eqb (x .left) 0)) q) ∙ some)) in (
         ap (hasRequest (ch .left)) e ∙ rw (y .1),
-        ap (pathOf setup l) q
-            ∙ ap (λ (x : ℕ). pathOf setup x (restAt setup ch o)) e
-            ∙ same-path setup (r .framed) ch k z o (y .0) (rw (y .1)) (y .2) (omega (arith, left))
-            ∙ ap (λ (x : ℕ). pathOf setup x (requestOf ch x)) (sym e),
+        ap (routeOf setup l) q
+            ∙ ap (λ (x : ℕ). routeOf setup x (restAt setup ch o)) e
+            ∙ same-route setup (r .framed) ch k z o (y .0) (rw (y .1)) (y .2) (omega (arith, left))
+            ∙ ap (λ (x : ℕ). routeOf setup x (requestOf ch x)) (sym e),
       ))
       (λ n.
-      let q = after ∙ other setup (r .framed) ch k z o (y .0) (rw (y .1)) (y .2) l (eqb-false l o n) in
-      (sym (ap (λ (x : Request). not (eqb (x .left) 0)) q) ∙ some, ap (pathOf setup l) q))
+      let q = same ∙ other setup (r .framed) ch k z o (y .0) (rw (y .1)) (y .2) l (eqb-false l o n) in
+      (sym (ap (λ (x : Request). not (eqb (x .left) 0)) q) ∙ some, ap (routeOf setup l) q))
 
   by-plan : (p : Plan) → actPlan setup ch ≡ p → OneStep setup w (planned p) (advancedBy setup ch p .answer)
-  unfolding grantTurn granted leaveTurn freed cleared timed
+  unfolding grantTurn granted leaveTurn freed clearMarks setAsked
   by-plan plan.Idle is = planned-step plan.Idle is (λ why e. absurd (not-refused e)) refl refl (λ l o. (o, refl))
   by-plan (plan.Refused why) is =
       planned-step (plan.Refused why) is (λ x e. (sym (ap reason e) ∙ says setup ch (plan.Refused why) is, refl)) refl refl
@@ -222,7 +222,7 @@ module _ (setup : Setup) (w : Running) (r : Ready setup (w .channel) (length (w 
   by-plan (plan.Grant v) is = planned-step (plan.Grant v) is (λ why e. absurd (not-refused e)) refl refl (λ l o. (o, refl))
   by-plan (plan.Leave o) is = planned-step (plan.Leave o) is (λ why e. absurd (not-refused e)) refl refl (λ l q. (q, refl))
   by-plan (plan.Cycle o) is =
-      let n = moved-lengths (pathOf setup o (requestOf ch o)) (requestOf ch o) (w .slave) (w .master)
+      let n = moved-lengths (routeOf setup o (requestOf ch o)) (requestOf ch o) (w .slave) (w .master)
       (planned-roomy setup ch o (length (w .slave)) (length (w .master)) r is) in
       planned-step (plan.Cycle o) is (λ why e. absurd (not-refused e)) (n .0) (n .1) (cycle-ways o is)
 
@@ -232,39 +232,39 @@ module _ (setup : Setup) (w : Running) (r : Ready setup (w .channel) (length (w 
       record {
         channel = s .channel;
         tally = s .tally;
-        done = steps (s .answer) (w .done);
+        done = stepsAfter (s .answer) (w .done);
         full = stops (s .answer);
         slave = slaveBy setup ch (actPlan setup ch) (w .slave) (w .master);
         master = masterBy setup ch (actPlan setup ch) (w .slave) (w .master);
       }
 
-  module _ (path : Path)
-      (way : (o : ℕ) → ch .phase ≡ Granted o → eqb (getD (ch .left) o 0) 0 ≡ false → path ≡ pathOf setup o (requestOf ch o)) where
-    pub one-step : OneStep setup w (stepRun path w) (decidedIn path ch (w .tally) .acted .answer)
+  module _ (route : Route)
+      (way : (o : ℕ) → ch .phase ≡ Granted o → eqb (getD (ch .left) o 0) 0 ≡ false → route ≡ routeOf setup o (requestOf ch o)) where
+    pub one-step : OneStep setup w (stepRun route w) (decidedIn route ch (w .tally) .acted .answer)
     unfolding stepRun
     one-step =
-        let x = made setup ch (w .tally) _ _ r k path way in
+        let x = made setup ch (w .tally) _ _ r k route way in
         let c = carried setup ch (w .slave) (w .master) (actPlan setup ch) in
         rw (x .1, c .0, c .1)
         (subst (λ (s : Stepped). OneStep setup w (asStepped s) (s .answer)) (sym (x .0)) (by-plan (actPlan setup ch) refl))
 
     -- its bytes have room
-    pub room-step : Room (decidedIn path ch (w .tally) .carry) (length (w .slave)) (length (w .master))
-    room-step = rw (made setup ch (w .tally) _ _ r k path way .1) (act-room setup ch (w .slave) (w .master) r)
+    pub room-step : Room (decidedIn route ch (w .tally) .carry) (length (w .slave)) (length (w .master))
+    room-step = rw (made setup ch (w .tally) _ _ r k route way .1) (act-room setup ch (w .slave) (w .master) r)
 
 -- and so some steps of a run lie between
 pub turned-step : (setup : Setup) (budget : ℕ) (w : Running) → w .full ≡ false → w .done < budget
-    → Ready setup (w .channel) (length (w .slave)) (length (w .master)) → Shaped (w .channel) → (path : Path)
-    → ((o : ℕ) → w .channel .phase ≡ Granted o → eqb (getD (w .channel .left) o 0) 0 ≡ false → path
-    ≡ pathOf setup o (requestOf (w .channel) o))
-    → Turned setup budget w (stepRun path w)
-turned-step setup budget w f h r k path way = turned-once setup budget w (stepRun path w) _ f h (one-step setup w r k path way)
+    → Ready setup (w .channel) (length (w .slave)) (length (w .master)) → Shaped (w .channel) → (route : Route)
+    → ((o : ℕ) → w .channel .phase ≡ Granted o → eqb (getD (w .channel .left) o 0) 0 ≡ false → route
+    ≡ routeOf setup o (requestOf (w .channel) o))
+    → Turned setup budget w (stepRun route w)
+turned-step setup budget w f h r k route way = turned-once setup budget w (stepRun route w) _ f h (one-step setup w r k route way)
 
 -- a channel that is ready is so after its step
 pub ready-next : (setup : Setup) (ch : Channel) (t : Tally) (slave master : List ℕ) → Ready setup ch (length slave) (length master) → Shaped ch
-    → Ready setup (after setup (world ch t slave master) .channel) (length (after setup (world ch t slave master) .slave))
-    (length (after setup (world ch t slave master) .master))
-    × Shaped (after setup (world ch t slave master) .channel)
+    → Ready setup (worldAfter setup (world ch t slave master) .channel) (length (worldAfter setup (world ch t slave master) .slave))
+    (length (worldAfter setup (world ch t slave master) .master))
+    × Shaped (worldAfter setup (world ch t slave master) .channel)
 ready-next setup ch t slave master r k =
     let w : Running = record { channel = ch; tally = t; done = 0; full = false; slave = slave; master = master } in
     let s = by-plan setup w r k (actPlan setup ch) refl in

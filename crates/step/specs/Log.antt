@@ -11,14 +11,14 @@ use Rattle.refusal.specs.declared.Verdict.the-variants.{Accepted, Refused}
 use Rattle.frame.specs.declared.Setup.{Setup}
 use Rattle.act.specs.declared.Entry.{Entry}
 use Rattle.logline.specs.Line.{entryText}
-use Rattle.logline.specs.Text.{hasRoom, past, written}
+use Rattle.logline.specs.Text.{hasRoomIn, placeAfter, outAfter}
 use Rattle.step.specs.declared.StepAnswer.{StepAnswer}
 use Rattle.step.specs.declared.StepAnswer.the-variants.{Done, Refused as NotDone}
 use Rattle.step.specs.declared.Logged.{Logged}
 use Rattle.step.specs.Plan.{readyVerdict}
-use Rattle.step.specs.Run.{World, ended, stepIn, after}
+use Rattle.step.specs.Run.{World, stopped, stepIn, worldAfter}
 
--- the lent buffer, and where the next line goes
+-- the lent buffer, and where the next log line goes
 pub record Page : Type 0 where
   pub out : List ℕ
   pub at : ℕ
@@ -26,10 +26,10 @@ pub record Page : Type 0 where
 abbrev pub page : List ℕ → ℕ → Page
 page out at = record { out = out; at = at }
 
--- the page with the line of an entry
-unfoldable pub lined : Page → Entry → Page
-lined p entry =
-    record { out = written (p .out) (p .at) (entryText entry); at = past (p .out) (p .at) (entryText entry) }
+-- the page with the log line of an entry
+unfoldable pub pageAfter : Page → Entry → Page
+pageAfter p entry =
+    record { out = outAfter (p .out) (p .at) (entryText entry); at = placeAfter (p .out) (p .at) (entryText entry) }
 
 -- what a logged run gives back, and the stores and the buffer then
 pub record LoggedOut : Type 0 where
@@ -41,7 +41,7 @@ pub record LoggedOut : Type 0 where
 abbrev pub closed : Verdict → ℕ → World → Page → LoggedOut
 closed verdict steps w p =
     record {
-      result = record { ran = ended verdict steps w .result; past = p .at };
+      result = record { ran = stopped verdict steps w .result; end = p .at };
       slave = w .slave;
       master = w .master;
       out = p .out;
@@ -52,12 +52,12 @@ abbrev pub logOn : StepAnswer → (Entry → LoggedOut) → (Verdict → LoggedO
 logOn (Done entry) on stop = on entry
 logOn (NotDone why) on stop = stop (Refused why)
 
--- the steps that are left, after so many done: each is taken only where there is room for its line, and then writes it
+-- the steps that are left, after `done` of them: each is taken only where there is room for its line, and then writes it
 unfoldable pub logFrom : Setup → ℕ → ℕ → World → Page → LoggedOut
 logFrom setup zero done w p = closed Accepted done w p
 logFrom setup (suc left) done w p =
-    cond (hasRoom (p .out) (p .at))
-    (logOn (stepIn setup w .answer) (λ (entry : Entry). logFrom setup left (suc done) (after setup w) (lined p entry))
+    cond (hasRoomIn (p .out) (p .at))
+    (logOn (stepIn setup w .answer) (λ (entry : Entry). logFrom setup left (suc done) (worldAfter setup w) (pageAfter p entry))
     (λ (verdict : Verdict). closed verdict done w p))
     (closed Accepted done w p)
 
@@ -66,5 +66,5 @@ abbrev pub logBy : Setup → Verdict → ℕ → World → Page → LoggedOut
 logBy setup (Refused why) budget w p = closed (Refused why) 0 w p
 logBy setup Accepted budget w p = cond (ltb stepsMost budget) (closed (Refused (refusalBy 7)) 0 w p) (logFrom setup budget 0 w p)
 
-unfoldable pub logOf : Setup → ℕ → World → Page → LoggedOut
-logOf setup budget w p = logBy setup (readyVerdict setup (w .channel) (length (w .slave)) (length (w .master))) budget w p
+unfoldable pub logRunOf : Setup → ℕ → World → Page → LoggedOut
+logRunOf setup budget w p = logBy setup (readyVerdict setup (w .channel) (length (w .slave)) (length (w .master))) budget w p

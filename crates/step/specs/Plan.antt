@@ -17,31 +17,31 @@ use Rattle.channel.specs.declared.Request.{Request}
 use Rattle.channel.specs.Channel.{requestOf}
 use Rattle.channel.specs.Line.{line, winner}
 use Rattle.sound.specs.Sound.{isSound}
-use Rattle.act.specs.Cycle.{Cycle, pathOf, cycleOf}
+use Rattle.act.specs.Cycle.{Cycle, routeOf, cycleOf}
 use Rattle.act.specs.Turn.{arbitrationTime}
 use Rattle.step.specs.declared.Plan.{Plan}
 use Rattle.step.specs.declared.Plan.the-variants.{Idle, Refused, Grant, Leave}
 use Rattle.step.specs.declared.Plan.the-variants as plan
 
 -- "6: step: the clock would pass 4,000,000,000"
-abbrev pub timed : Channel → ℕ → Plan → Plan
-timed ch time plan = cond (ltb clockLimit (ch .clock + time)) (Refused (refusalBy 6)) plan
+abbrev pub withinClock : Channel → ℕ → Plan → Plan
+withinClock ch time plan = cond (ltb clockLimit (ch .clock + time)) (Refused (refusalBy 6)) plan
 
 -- the next cycle of a level's request
 abbrev pub nextOf : Setup → ℕ → Request → Cycle
-nextOf setup l q = cycleOf (pathOf setup l q) q
+nextOf setup l q = cycleOf (routeOf setup l q) q
 
 -- "Granted, owner without a request (only 15). Active line: release .. Otherwise idle"; "Granted, with a request. One cycle runs"
 abbrev pub requestPlan : Setup → Channel → ℕ → Request → Plan
 requestPlan setup ch owner q =
-    cond (eqb (q .left) 0) (cond (line ch) (Leave owner) Idle) (timed ch (nextOf setup owner q .time) (plan.Cycle owner))
+    cond (eqb (q .left) 0) (cond (line ch) (Leave owner) Idle) (withinClock ch (nextOf setup owner q .time) (plan.Cycle owner))
 
 unfoldable pub ownerPlan : Setup → Channel → ℕ → Plan
 ownerPlan setup ch owner = requestPlan setup ch owner (requestOf ch owner)
 
 -- "Arbitrating. The lowest-numbered level with an open request and no inactive mark wins .. The winner is the owner"
 abbrev pub phasePlan : Setup → Channel → Phase → Plan
-phasePlan setup ch Arbitrating = timed ch arbitrationTime (Grant (winner (ch .left) (ch .inactive)))
+phasePlan setup ch Arbitrating = withinClock ch arbitrationTime (Grant (winner (ch .left) (ch .inactive)))
 phasePlan setup ch (Granted owner) = ownerPlan setup ch owner
 
 unfoldable pub actPlan : Setup → Channel → Plan

@@ -34,8 +34,9 @@ pub record Out : Type 0 where
   pub slave : List ℕ
   pub master : List ℕ
 
-abbrev pub ended : Verdict → ℕ → World → Out
-ended verdict steps w =
+-- the same where it stops: with this verdict, after this many steps
+abbrev pub stopped : Verdict → ℕ → World → Out
+stopped verdict steps w =
     record {
       result = record { channel = w .channel; tally = w .tally; steps = steps; verdict = verdict };
       slave = w .slave;
@@ -45,8 +46,9 @@ ended verdict steps w =
 abbrev pub stepIn : Setup → World → Stepped
 stepIn setup w = stepOf setup (w .channel) (w .tally) (w .slave) (w .master)
 
-unfoldable pub after : Setup → World → World
-after setup w =
+-- the world after one step
+unfoldable pub worldAfter : Setup → World → World
+worldAfter setup w =
     record {
       channel = stepIn setup w .channel;
       tally = stepIn setup w .tally;
@@ -59,17 +61,17 @@ abbrev pub goOn : StepAnswer → Out → (Verdict → Out) → Out
 goOn (Done entry) on stop = on
 goOn (NotDone why) on stop = stop (Refused why)
 
--- the steps that are left, after so many done
+-- the steps that are left, after `done` of them
 unfoldable pub runFrom : Setup → ℕ → ℕ → World → Out
-runFrom setup zero done w = ended Accepted done w
+runFrom setup zero done w = stopped Accepted done w
 runFrom setup (suc left) done w =
-    goOn (stepIn setup w .answer) (runFrom setup left (suc done) (after setup w)) (λ (verdict : Verdict). ended verdict done w)
+    goOn (stepIn setup w .answer) (runFrom setup left (suc done) (worldAfter setup w)) (λ (verdict : Verdict). stopped verdict done w)
 
 -- "Order: 9 first, then 8, then 7"; "7: run: more than 65,535 steps"; "A run that meets 6 isn't itself refused: it gives the channel after the steps done,
 -- their number, and 6."
 abbrev pub runBy : Setup → Verdict → ℕ → World → Out
-runBy setup (Refused why) budget w = ended (Refused why) 0 w
-runBy setup Accepted budget w = cond (ltb stepsMost budget) (ended (Refused (refusalBy 7)) 0 w) (runFrom setup budget 0 w)
+runBy setup (Refused why) budget w = stopped (Refused why) 0 w
+runBy setup Accepted budget w = cond (ltb stepsMost budget) (stopped (Refused (refusalBy 7)) 0 w) (runFrom setup budget 0 w)
 
 unfoldable pub runOf : Setup → ℕ → World → Out
 runOf setup budget w = runBy setup (readyVerdict setup (w .channel) (length (w .slave)) (length (w .master))) budget w

@@ -7,7 +7,7 @@ use lib.ListN.{length, drop}
 use lib.Seq.{paste}
 use lib.Dec.{eqb, leb}
 use Rattle.basics.specs.Limits.{memoryEnd, storeMost}
-use Rattle.refusal.specs.Refusal.{numberOf}
+use Rattle.refusal.specs.Refusal.{refusalNumber}
 use Rattle.cycle.specs.Cycle.{isWidth, isPort}
 use Rattle.frame.specs.Frame.{isFramed}
 use Rattle.frame.specs.Find.{slaveStoreLength}
@@ -18,7 +18,7 @@ use Rattle.channel.specs.Channel.{requestOf}
 use Rattle.sound.specs.Sound.{isSound}
 use Rattle.tally.specs.declared.Tally.{Tally}
 use Rattle.tally.specs.Tally.{addEntry}
-use Rattle.act.specs.declared.Path.{Path}
+use Rattle.act.specs.declared.Route.{Route}
 use Rattle.step.specs.declared.Plan.{Plan}
 use Rattle.step.specs.declared.Plan.the-variants.{Idle, Refused, Grant, Leave, Cycle}
 use Rattle.step.specs.declared.Stepped.{Stepped}
@@ -26,14 +26,14 @@ use Rattle.step.specs.declared.Carry.{Carry}
 use Rattle.step.specs.declared.Decision.{Decision}
 use Rattle.step.specs.declared.StepAnswer.{StepAnswer}
 use Rattle.step.specs.declared.StepAnswer.the-variants.{Done, Refused as NotDone}
-use Rattle.act.specs.Cycle.{pathOf, cycleBytes, Turned, cycleTurn}
+use Rattle.act.specs.Cycle.{routeOf, cycleBytes, Turned, cycleTurn}
 use Rattle.act.specs.Entry.{entryNumbers}
 use Rattle.act.specs.Turn.{grantTurn, leaveTurn, idleTurn}
 use Rattle.step.specs.Plan.{nextOf, planOf}
 
 -- a plan in the paper's numbers: the refusal; or 0, the letter of the line that its step writes, and whom the step is about
 abbrev pub planNumbers : Plan → List ℕ
-planNumbers (Refused why) = numberOf why ∷ []
+planNumbers (Refused why) = refusalNumber why ∷ []
 planNumbers Idle = 0 ∷ 73 ∷ []
 planNumbers (Grant winner) = 0 ∷ 71 ∷ winner ∷ []
 planNumbers (Leave owner) = 0 ∷ 82 ∷ owner ∷ []
@@ -42,7 +42,7 @@ planNumbers (Cycle owner) = 0 ∷ 67 ∷ owner ∷ []
 -- a step's answer in the paper's numbers: 0 and its entry's, or the refusal; "A refused step .. has no entry"
 abbrev pub stepNumbers : StepAnswer → List ℕ
 stepNumbers (Done entry) = 0 ∷ entryNumbers entry
-stepNumbers (NotDone why) = numberOf why ∷ []
+stepNumbers (NotDone why) = refusalNumber why ∷ []
 
 -- the channel after a step, and its entry or why it was refused
 pub record Advanced : Type 0 where
@@ -54,7 +54,7 @@ doneBy turned = record { channel = turned .channel; answer = Done (turned .entry
 
 -- one cycle of an owner's request
 abbrev pub cycleAt : Setup → Channel → ℕ → Request → Turned
-cycleAt setup ch owner q = cycleTurn (pathOf setup owner q) ch owner (q .direction) (nextOf setup owner q)
+cycleAt setup ch owner q = cycleTurn (routeOf setup owner q) ch owner (q .direction) (nextOf setup owner q)
 
 -- "A refused call gives back the channel it got"; a refused step "has no entry"
 abbrev pub advancedBy : Setup → Channel → Plan → Advanced
@@ -77,13 +77,13 @@ unfoldable pub stepOf : Setup → Channel → Tally → List ℕ → List ℕ �
 stepOf setup ch t slave master = tallied t (advancedBy setup ch (planOf setup ch (length slave) (length master)))
 
 -- "The i-th byte goes with address + i and offset + i.": what the next cycle of a request moves, and where its bytes lie in both stores
-unfoldable pub carryOf : Path → Request → Carry
-carryOf path q =
+unfoldable pub carryOf : Route → Request → Carry
+carryOf route q =
     record {
       direction = q .direction;
-      place = path .start + (q .address - path .base);
+      place = route .start + (q .address - route .base);
       offset = q .offset;
-      bytes = cycleBytes path q;
+      bytes = cycleBytes route q;
     }
 
 -- "direction (0 read: slave to master; 1 write)": the stores after it
@@ -99,14 +99,14 @@ slaveBy setup ch Idle slave master = slave
 slaveBy setup ch (Refused why) slave master = slave
 slaveBy setup ch (Grant w) slave master = slave
 slaveBy setup ch (Leave o) slave master = slave
-slaveBy setup ch (Cycle o) slave master = movedSlave (carryOf (pathOf setup o (requestOf ch o)) (requestOf ch o)) slave master
+slaveBy setup ch (Cycle o) slave master = movedSlave (carryOf (routeOf setup o (requestOf ch o)) (requestOf ch o)) slave master
 
 abbrev pub masterBy : Setup → Channel → Plan → List ℕ → List ℕ → List ℕ
 masterBy setup ch Idle slave master = master
 masterBy setup ch (Refused why) slave master = master
 masterBy setup ch (Grant w) slave master = master
 masterBy setup ch (Leave o) slave master = master
-masterBy setup ch (Cycle o) slave master = movedMaster (carryOf (pathOf setup o (requestOf ch o)) (requestOf ch o)) slave master
+masterBy setup ch (Cycle o) slave master = movedMaster (carryOf (routeOf setup o (requestOf ch o)) (requestOf ch o)) slave master
 
 unfoldable pub slaveAfter : Setup → Channel → List ℕ → List ℕ → List ℕ
 slaveAfter setup ch slave master = slaveBy setup ch (planOf setup ch (length slave) (length master)) slave master
@@ -123,26 +123,26 @@ carryBy setup ch Idle = noCarry
 carryBy setup ch (Refused why) = noCarry
 carryBy setup ch (Grant w) = noCarry
 carryBy setup ch (Leave o) = noCarry
-carryBy setup ch (Cycle o) = carryOf (pathOf setup o (requestOf ch o)) (requestOf ch o)
+carryBy setup ch (Cycle o) = carryOf (routeOf setup o (requestOf ch o)) (requestOf ch o)
 
 unfoldable pub decisionOf : Setup → Channel → Tally → List ℕ → List ℕ → Decision
 decisionOf setup ch t slave master =
     record { stepped = stepOf setup ch t slave master; carry = carryBy setup ch (planOf setup ch (length slave) (length master)) }
 
 -- what is carried where both ranges lie inside their stores, and nothing elsewhere
-abbrev pub hasRoom : Carry → ℕ → ℕ → Bool
-hasRoom c slave master = leb (c .place + c .bytes) slave && leb (c .offset + c .bytes) master
+abbrev pub carryFits : Carry → ℕ → ℕ → Bool
+carryFits c slave master = leb (c .place + c .bytes) slave && leb (c .offset + c .bytes) master
 
 -- the ranges themselves
 pub record Room (c : Carry) (s m : ℕ) : Type 0 where
   pub slave : c .place + c .bytes ≤ s
   pub master : c .offset + c .bytes ≤ m
 
-unfoldable pub carriedSlave : Carry → List ℕ → List ℕ → List ℕ
-carriedSlave c slave master = cond (hasRoom c (length slave) (length master)) (movedSlave c slave master) slave
+unfoldable pub slaveAfterCarry : Carry → List ℕ → List ℕ → List ℕ
+slaveAfterCarry c slave master = cond (carryFits c (length slave) (length master)) (movedSlave c slave master) slave
 
-unfoldable pub carriedMaster : Carry → List ℕ → List ℕ → List ℕ
-carriedMaster c slave master = cond (hasRoom c (length slave) (length master)) (movedMaster c slave master) master
+unfoldable pub masterAfterCarry : Carry → List ℕ → List ℕ → List ℕ
+masterAfterCarry c slave master = cond (carryFits c (length slave) (length master)) (movedMaster c slave master) master
 
 -- For the laws only, from here on. What a step that is not refused by 9 or 8 may rely on: the set-up keeps the frame, the channel is sound, the stores have the set-up's lengths
 pub record Ready (setup : Setup) (ch : Channel) (s m : ℕ) : Type 0 where
@@ -151,18 +151,18 @@ pub record Ready (setup : Setup) (ch : Channel) (s m : ℕ) : Type 0 where
   pub slave : s ≡ slaveStoreLength (setup .slaves)
   pub master : m ≡ setup .master
 
--- what a cycle relies on: W and P of a set-up's rows, something left, and room for all of it in the address space and behind the row's start
-pub record Way (path : Path) (q : Request) : Type 0 where
-  pub width : isWidth (path .width) ≡ true
-  pub port : isPort (path .port) ≡ true
+-- what a cycle relies on: W and P of a set-up's rows, something left, and room for all of it in the address space and after the row's start
+pub record Way (route : Route) (q : Request) : Type 0 where
+  pub width : isWidth (route .width) ≡ true
+  pub port : isPort (route .port) ≡ true
   pub some : 0 < q .left
   pub end : q .address + q .left ≤ memoryEnd
   pub offset : q .offset + q .left ≤ storeMost
-  pub begins : path .base ≤ q .address
-  pub start : path .start ≤ storeMost
+  pub begins : route .base ≤ q .address
+  pub start : route .start ≤ storeMost
 
 -- and in both stores
-pub record Roomy (path : Path) (q : Request) (s m : ℕ) : Type 0 where
-  pub way : Way path q
-  pub slave : path .start + (q .address - path .base) + q .left ≤ s
+pub record Roomy (route : Route) (q : Request) (s m : ℕ) : Type 0 where
+  pub way : Way route q
+  pub slave : route .start + (q .address - route .base) + q .left ≤ s
   pub master : q .offset + q .left ≤ m

@@ -4,13 +4,13 @@
 use crate::Carry;
 use crate::StepAnswer;
 use crate::cycles::after_cycle;
-use crate::cycles::bytes_of;
 use crate::cycles::carry_of;
+use crate::cycles::cycle_bytes;
 use act::CycleEntry;
 use act::Ending;
 use act::Entry;
 use act::Hold;
-use act::Path;
+use act::Route;
 use basics::CLOCK_LIMIT;
 use basics::PLACES;
 use basics::PLACES_U8;
@@ -25,13 +25,13 @@ ghost use Prim.Native.Nat.{_+_, _≤_, _<_};
 ghost use lib.ListN.{set};
 ghost use lib.Dec.{ltb};
 ghost use Rattle.basics.specs.Limits.{places, clockLimit};
-ghost use Rattle.channel.specs.Channel.{placeIn};
+ghost use Rattle.channel.specs.Channel.{ownerPlace};
 ghost use Rattle.sound.specs.inner.Tables.{requestAt};
 ghost use Rattle.act.specs.Cycle.{cycleBytes};
 ghost use Rattle.act.specs.Turn.{arbitrationTime};
 ghost use Rattle.step.specs.Step.{Way};
 ghost use Rattle.step.specs.inner.Machine.{waitsFrom, othersFrom, Search, IsChosen, channelOf};
-ghost use Rattle.step.specs.inner.Machine.{fullActed, grantedBy, restActed, standingAfter, stays, cycleActed, cycleDecided, cycleMarks};
+ghost use Rattle.step.specs.inner.Machine.{fullActed, grantedBy, restActed, standingAfter, stayOf, cycleActed, cycleDecided, cycleMarks};
 ghost use Rattle.step.specs.inner.Machine.{Actable, decidedOf, decidedMarks};
 
 // What a step changes beside the channel's arrays and the stores.
@@ -63,8 +63,8 @@ pub(crate) struct Chosen {
 }
 
 // Where the owner stands in the arrays; while arbitrating the first place, which nobody then looks at.
-pub(crate) fn place_at(standing: Standing) -> usize
-    ensures { λ r. ⌜ r ≡ placeIn (standing .phase) ⌝ }
+pub(crate) fn owner_place(standing: Standing) -> usize
+    ensures { λ r. ⌜ r ≡ ownerPlace (standing .phase) ⌝ }
 {
     let phase = standing.phase;
     match phase {
@@ -208,7 +208,7 @@ pub(crate) fn choose(
 }
 
 // A step that the clock has no room for.
-pub(crate) fn full(standing: Standing) -> Acted
+pub(crate) fn full_acted(standing: Standing) -> Acted
     ensures { λ r. ⌜ r ≡ fullActed standing ⌝ }
 {
     Acted {
@@ -218,7 +218,7 @@ pub(crate) fn full(standing: Standing) -> Acted
 }
 
 // The winner is the owner, with no asked time until the line rule sets one.
-pub(crate) fn granted(standing: Standing, chosen: Chosen) -> Acted
+pub(crate) fn granted_by(standing: Standing, chosen: Chosen) -> Acted
     requires { ⌜ standing .clock + arbitrationTime ≤ clockLimit ⌝ }
     ensures { λ r. ⌜ r ≡ grantedBy standing (chosen .winner) (chosen .active) ⌝ }
 {
@@ -239,7 +239,7 @@ pub(crate) fn granted(standing: Standing, chosen: Chosen) -> Acted
 
 // An owner without a request leaves where it is asked, and idles otherwise: the line is active exactly when there is an
 // asked time.
-pub(crate) fn rest(standing: Standing, owner: u8) -> Acted
+pub(crate) fn rest_acted(standing: Standing, owner: u8) -> Acted
     ensures { λ r. ⌜ r ≡ restActed (standing .asked) standing owner ⌝ }
 {
     let asked = standing.asked;
@@ -293,27 +293,27 @@ pub(crate) fn standing_after(
 }
 
 // A cycle with this ending, and its entry.
-fn cycled(
-    path: Path,
+fn cycle_acted(
+    route: Route,
     standing: Standing,
     owner: u8,
     request: Request,
     bytes: u32,
     ending: Ending,
 ) -> Acted
-    requires { ⌜ bytes ≡ cycleBytes path request ⌝ }
-    requires { ⌜ standing .clock + path .time ≤ clockLimit ⌝ }
-    ensures { λ r. ⌜ r ≡ cycleActed path standing owner request ending ⌝ }
+    requires { ⌜ bytes ≡ cycleBytes route request ⌝ }
+    requires { ⌜ standing .clock + route .time ≤ clockLimit ⌝ }
+    ensures { λ r. ⌜ r ≡ cycleActed route standing owner request ending ⌝ }
 {
-    let clock = standing.clock + path.time;
+    let clock = standing.clock + route.time;
     let entry = CycleEntry {
         clock: clock,
         level: owner,
         address: request.address,
         bytes: bytes,
         direction: request.direction,
-        master: cycle::master_lane(path.width, request.address),
-        slave: cycle::slave_lane(path.port, request.address),
+        master_lane: cycle::master_lane(route.width, request.address),
+        slave_lane: cycle::slave_lane(route.port, request.address),
         ending: ending,
     };
     let tally = tally::add_cycle(standing.tally, bytes, ending);
@@ -326,7 +326,7 @@ fn cycled(
 
 // A step that moves nothing and leaves the owner's slot.
 fn stay(acted: Acted, request: Request) -> Decided
-    ensures { λ r. ⌜ r ≡ stays acted request ⌝ }
+    ensures { λ r. ⌜ r ≡ stayOf acted request ⌝ }
 {
     let carry = Carry {
         direction: 0,
@@ -342,27 +342,27 @@ fn stay(acted: Acted, request: Request) -> Decided
 }
 
 // One cycle of the owner's request.
-fn decide_cycle(
-    path: Path,
+fn cycle_decided(
+    route: Route,
     standing: Standing,
     owner: u8,
     request: Request,
     inactive: &mut [bool; PLACES],
 ) -> Decided
     requires { ⌜ owner < places ⌝ }
-    requires { ⌜ standing .clock + path .time ≤ clockLimit ⌝ }
-    requires { ⌜ Way path request ⌝ }
-    ensures { λ r. ⌜ r ≡ cycleDecided path standing owner request ⌝ }
-    ensures { λ r. ⌜ now (inactive .exit) ≡ cycleMarks path standing owner request (now (inactive .entry)) ⌝ }
+    requires { ⌜ standing .clock + route .time ≤ clockLimit ⌝ }
+    requires { ⌜ Way route request ⌝ }
+    ensures { λ r. ⌜ r ≡ cycleDecided route standing owner request ⌝ }
+    ensures { λ r. ⌜ now (inactive .exit) ≡ cycleMarks route standing owner request (now (inactive .entry)) ⌝ }
 {
-    let bytes = bytes_of(path, request);
+    let bytes = cycle_bytes(route, request);
     let asked = standing.asked;
-    let after = after_cycle(path, asked, standing.clock + path.time, request, bytes);
+    let after = after_cycle(route, asked, standing.clock + route.time, request, bytes);
     let ending = after.ending;
     inactive[owner as usize] = act::is_marked(ending);
-    let acted = cycled(path, standing, owner, request, bytes, ending);
+    let acted = cycle_acted(route, standing, owner, request, bytes, ending);
     let slot = after.rest;
-    let carry = carry_of(path, request, bytes);
+    let carry = carry_of(route, request, bytes);
     Decided {
         acted: acted,
         slot: slot,
@@ -370,35 +370,35 @@ fn decide_cycle(
     }
 }
 
-// The step of a sound channel, by what is left of the owner's request and the path of it.
+// The step of a sound channel, by what is left of the owner's request and the route of it.
 pub(crate) fn act_on(
-    path: Path,
+    route: Route,
     standing: Standing,
     request: Request,
     left: &[u32; PLACES],
     inactive: &mut [bool; PLACES],
 ) -> Decided
-    requires { ⌜ Actable path standing request ⌝ }
-    ensures { λ r. ⌜ r ≡ decidedOf path standing request (now (left .entry)) (now (inactive .entry)) ⌝ }
-    ensures { λ r. ⌜ now (inactive .exit) ≡ decidedMarks path standing request (now (left .entry)) (now (inactive .entry)) ⌝ }
+    requires { ⌜ Actable route standing request ⌝ }
+    ensures { λ r. ⌜ r ≡ decidedOf route standing request (now (left .entry)) (now (inactive .entry)) ⌝ }
+    ensures { λ r. ⌜ now (inactive .exit) ≡ decidedMarks route standing request (now (left .entry)) (now (inactive .entry)) ⌝ }
 {
     let phase = standing.phase;
     match phase {
         Phase::Arbitrating => {
             if is_full(standing.clock, act::arbitration_time()) {
-                return stay(full(standing), request);
+                return stay(full_acted(standing), request);
             }
             let chosen = choose(left, inactive, 0, 0);
-            stay(granted(standing, chosen), request)
+            stay(granted_by(standing, chosen), request)
         }
         Phase::Granted(owner) => {
             if request.left == 0 {
-                return stay(rest(standing, owner), request);
+                return stay(rest_acted(standing, owner), request);
             }
-            if is_full(standing.clock, path.time) {
-                return stay(full(standing), request);
+            if is_full(standing.clock, route.time) {
+                return stay(full_acted(standing), request);
             }
-            decide_cycle(path, standing, owner, request, inactive)
+            cycle_decided(route, standing, owner, request, inactive)
         }
     }
 }

@@ -1,8 +1,8 @@
 // One cycle of an owner (document 01, "One step", "Granted, with a request"): its bytes, what is left, how it ends, and the
-// moving of its bytes. Every path here comes from the rows of a set-up, so that W is 2 or 4 and P is 1, 2 or 4: no division runs.
+// moving of its bytes. Every route here comes from the rows of a set-up, so that W is 2 or 4 and P is 1, 2 or 4: no division runs.
 use crate::Carry;
 use act::Ending;
-use act::Path;
+use act::Route;
 use channel::Asked;
 use channel::Request;
 ghost use mathlib.Core.Path.{_≡_};
@@ -14,31 +14,31 @@ ghost use Rattle.basics.specs.Limits.{memoryEnd, storeMost};
 ghost use Rattle.cycle.specs.Cycle.{isWidth, isPort};
 ghost use Rattle.act.specs.Cycle.{cycleBytes, restAfter, nextTime, isLate};
 ghost use Rattle.step.specs.Step.{Way, Room, carryOf, movedSlave, movedMaster};
-ghost use Rattle.step.specs.inner.Machine.{isInside, leavesAt, afterOf};
+ghost use Rattle.step.specs.inner.Machine.{isInside, leavesAt, afterCycle};
 
 // What a cycle leaves of its request, and how it ends.
-pub(crate) struct After {
+pub(crate) struct Left {
     pub rest: Request,
     pub ending: Ending,
 }
 
 // How many bytes the next cycle of a request moves. Four bytes from a multiple of 4 on hold whole blocks of any Q.
-pub(crate) fn bytes_of(path: Path, request: Request) -> u32
-    requires { ⌜ Way path request ⌝ }
-    ensures { λ r. ⌜ r ≡ cycleBytes path request ⌝ }
+pub(crate) fn cycle_bytes(route: Route, request: Request) -> u32
+    requires { ⌜ Way route request ⌝ }
+    ensures { λ r. ⌜ r ≡ cycleBytes route request ⌝ }
 {
-    let q = cycle::narrow(path.width, path.port);
+    let q = cycle::narrower_of(route.width, route.port);
     if (4 <= request.left) & (request.address % 4 == 0) {
         return q;
     }
     if q == 1 {
         return 1;
     }
-    cycle::tabled(q, request.address, request.left)
+    cycle::tabled_length(q, request.address, request.left)
 }
 
 // What is left of a request after some of its bytes.
-fn rest_of(request: Request, bytes: u32) -> Request
+fn rest_after(request: Request, bytes: u32) -> Request
     requires { ⌜ bytes < request .left ⌝ }
     requires { ⌜ request .address + request .left ≤ memoryEnd ⌝ }
     requires { ⌜ request .offset + request .left ≤ storeMost ⌝ }
@@ -65,101 +65,101 @@ fn is_inside(width: u32, address: u32) -> bool
 }
 
 // The time of the transfer that begins with what is left: W bytes of it, or all.
-fn next_time(path: Path, rest: Request) -> u64
-    requires { ⌜ isWidth (path .width) ≡ true ⌝ }
-    requires { ⌜ isPort (path .port) ≡ true ⌝ }
-    requires { ⌜ rest .address % path .width ≡ 0 ⌝ }
+fn next_time(route: Route, rest: Request) -> u64
+    requires { ⌜ isWidth (route .width) ≡ true ⌝ }
+    requires { ⌜ isPort (route .port) ≡ true ⌝ }
+    requires { ⌜ rest .address % route .width ≡ 0 ⌝ }
     requires { ⌜ 0 < rest .left ⌝ }
-    ensures { λ r. ⌜ r ≡ nextTime path rest ⌝ }
+    ensures { λ r. ⌜ r ≡ nextTime route rest ⌝ }
 {
-    let bytes = basics::smaller(rest.left, path.width);
-    let q = cycle::narrow(path.width, path.port);
+    let bytes = basics::smaller(rest.left, route.width);
+    let q = cycle::narrower_of(route.width, route.port);
     if q == 4 {
-        return path.time as u64;
+        return route.time as u64;
     }
     if q == 2 {
-        return ((bytes + 1) / 2) as u64 * path.time as u64;
+        return ((bytes + 1) / 2) as u64 * route.time as u64;
     }
-    bytes as u64 * path.time as u64
+    bytes as u64 * route.time as u64
 }
 
 // There is an asked time, and either linger is off or the next transfer would end after it and the allowance.
-fn is_late(path: Path, asked: Asked, clock: u32, rest: Request) -> bool
-    requires { ⌜ isWidth (path .width) ≡ true ⌝ }
-    requires { ⌜ isPort (path .port) ≡ true ⌝ }
-    requires { ⌜ rest .address % path .width ≡ 0 ⌝ }
+fn is_late(route: Route, asked: Asked, clock: u32, rest: Request) -> bool
+    requires { ⌜ isWidth (route .width) ≡ true ⌝ }
+    requires { ⌜ isPort (route .port) ≡ true ⌝ }
+    requires { ⌜ rest .address % route .width ≡ 0 ⌝ }
     requires { ⌜ 0 < rest .left ⌝ }
-    ensures { λ r. ⌜ r ≡ isLate path asked clock (nextTime path rest) ⌝ }
+    ensures { λ r. ⌜ r ≡ isLate route asked clock (nextTime route rest) ⌝ }
 {
     match asked {
         Asked::Never => false,
         Asked::At(t) => {
-            if !frame::has_linger(path.options) {
+            if !frame::has_linger(route.options) {
                 return true;
             }
-            !frame::is_within(path.allowed, next_time(path, rest), clock, t)
+            !frame::is_within(route.allowed, next_time(route, rest), clock, t)
         }
     }
 }
 
 // At the end of a transfer an owner with something left releases when burst is off or it is late.
-fn is_leaving(path: Path, asked: Asked, clock: u32, rest: Request) -> bool
-    requires { ⌜ isWidth (path .width) ≡ true ⌝ }
-    requires { ⌜ isPort (path .port) ≡ true ⌝ }
+fn leaves_at(route: Route, asked: Asked, clock: u32, rest: Request) -> bool
+    requires { ⌜ isWidth (route .width) ≡ true ⌝ }
+    requires { ⌜ isPort (route .port) ≡ true ⌝ }
     requires { ⌜ 0 < rest .left ⌝ }
-    ensures { λ r. ⌜ r ≡ leavesAt path asked clock rest ⌝ }
+    ensures { λ r. ⌜ r ≡ leavesAt route asked clock rest ⌝ }
 {
-    if is_inside(path.width, rest.address) {
+    if is_inside(route.width, rest.address) {
         return false;
     }
-    if !frame::has_burst(path.options) {
+    if !frame::has_burst(route.options) {
         return true;
     }
-    is_late(path, asked, clock, rest)
+    is_late(route, asked, clock, rest)
 }
 
 // What a cycle leaves, and how it ends at the clock after it. A request that is done is released and leaves nothing: no
 // address past its end is formed.
 pub(crate) fn after_cycle(
-    path: Path,
+    route: Route,
     asked: Asked,
     clock: u32,
     request: Request,
     bytes: u32,
-) -> After
-    requires { ⌜ Way path request ⌝ }
-    requires { ⌜ bytes ≡ cycleBytes path request ⌝ }
-    ensures { λ r. ⌜ r ≡ afterOf path asked clock request ⌝ }
+) -> Left
+    requires { ⌜ Way route request ⌝ }
+    requires { ⌜ bytes ≡ cycleBytes route request ⌝ }
+    ensures { λ r. ⌜ r ≡ afterCycle route asked clock request ⌝ }
 {
     if bytes == request.left {
         let none = channel::no_request();
-        let released = act::released_by(path.options, asked, clock);
-        return After {
+        let released = act::released_by(route.options, asked, clock);
+        return Left {
             rest: none,
             ending: released,
         };
     }
-    let rest = rest_of(request, bytes);
-    if is_leaving(path, asked, clock, rest) {
-        let released = act::released_by(path.options, asked, clock);
-        return After {
+    let rest = rest_after(request, bytes);
+    if leaves_at(route, asked, clock, rest) {
+        let released = act::released_by(route.options, asked, clock);
+        return Left {
             rest: rest,
             ending: released,
         };
     }
-    After {
+    Left {
         rest: rest,
         ending: Ending::Kept,
     }
 }
 
-// What a cycle of so many bytes moves, and where they lie in both stores.
-pub(crate) fn carry_of(path: Path, request: Request, bytes: u32) -> Carry
-    requires { ⌜ Way path request ⌝ }
-    requires { ⌜ bytes ≡ cycleBytes path request ⌝ }
-    ensures { λ r. ⌜ r ≡ carryOf path request ⌝ }
+// What a cycle of `bytes` bytes moves, and where they lie in both stores.
+pub(crate) fn carry_of(route: Route, request: Request, bytes: u32) -> Carry
+    requires { ⌜ Way route request ⌝ }
+    requires { ⌜ bytes ≡ cycleBytes route request ⌝ }
+    ensures { λ r. ⌜ r ≡ carryOf route request ⌝ }
 {
-    let place = path.start + (request.address - path.base) as usize;
+    let place = route.start + (request.address - route.base) as usize;
     Carry {
         direction: request.direction,
         place: place,

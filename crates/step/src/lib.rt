@@ -8,19 +8,19 @@ mod logs;
 mod turns;
 
 use act::Entry;
-use act::Path;
+use act::Route;
 use acts::Standing;
 use acts::act_on;
 use acts::channel_of;
-use acts::place_at;
+use acts::owner_place;
 use acts::put_slot;
 use acts::slot_at;
 use basics::STEPS_MOST;
 use channel::Channel;
 use channel::Request;
 use cycles::carry;
+use frame::FramedStore;
 use frame::Setup;
-use frame::Store;
 use logs::log_steps;
 use refusal::Refusal;
 use refusal::Verdict;
@@ -33,10 +33,10 @@ ghost use Rattle.basics.specs.Limits.{places};
 ghost use Rattle.frame.specs.Find.{slaveStoreLength};
 ghost use Rattle.channel.specs.Channel.{Shaped};
 ghost use Rattle.step.specs.Plan.{actPlan, readyVerdict, planOf};
-ghost use Rattle.step.specs.Step.{Ready, stepOf, slaveAfter, masterAfter, decisionOf, hasRoom, carriedSlave, carriedMaster};
+ghost use Rattle.step.specs.Step.{Ready, stepOf, slaveAfter, masterAfter, decisionOf, carryFits, slaveAfterCarry, masterAfterCarry};
 ghost use Rattle.step.specs.Run.{world, runBy, runOf};
-ghost use Rattle.step.specs.Log.{page, logBy, logOf};
-ghost use Rattle.step.specs.inner.Machine.{pathFor, planIn, decisionBy, refusedDecision, refusedRun, refusedLog};
+ghost use Rattle.step.specs.Log.{page, logBy, logRunOf};
+ghost use Rattle.step.specs.inner.Machine.{routeFor, planIn, decisionBy, refusedDecision, refusedRun, refusedLog};
 
 // What a step is going to do.
 pub enum Plan {
@@ -59,7 +59,7 @@ pub struct Stepped {
     pub answer: StepAnswer,
 }
 
-// What a step moves: so many bytes between a place in the slave store and an offset in the master store, to the master where
+// What a step moves: `bytes` bytes between a place in the slave store and an offset in the master store, to the master where
 // the direction is 0.
 pub struct Carry {
     pub direction: u32,
@@ -85,7 +85,7 @@ pub struct Ran {
 // A logged run, and where its lines end.
 pub struct Logged {
     pub ran: Ran,
-    pub past: usize,
+    pub end: usize,
 }
 
 // Refusals 9 and 8, which a step and a run share.
@@ -94,8 +94,8 @@ pub fn ready_verdict(setup: Setup, channel: Channel, slave: usize, master: usize
 {
     let store = sound::sound_store(setup, channel);
     match store {
-        Store::Broken => Verdict::Refused(Refusal::Unsound),
-        Store::Length(length) => {
+        FramedStore::Broken => Verdict::Refused(Refusal::Unsound),
+        FramedStore::Length(length) => {
             if !((slave == length) & (master == setup.master as usize)) {
                 return Verdict::Refused(Refusal::StoreLength);
             }
@@ -104,13 +104,13 @@ pub fn ready_verdict(setup: Setup, channel: Channel, slave: usize, master: usize
     }
 }
 
-// The path of what is left of a level's request; without one there is none.
-fn path_for(setup: Setup, at: usize, request: Request) -> Path
+// The route of what is left of a level's request; without one there is none.
+fn route_for(setup: Setup, at: usize, request: Request) -> Route
     requires { ⌜ at < places ⌝ }
-    ensures { λ r. ⌜ r ≡ pathFor setup at request ⌝ }
+    ensures { λ r. ⌜ r ≡ routeFor setup at request ⌝ }
 {
     if request.left == 0 {
-        return Path {
+        return Route {
             width: 0,
             options: 0,
             port: 0,
@@ -120,7 +120,7 @@ fn path_for(setup: Setup, at: usize, request: Request) -> Path
             start: 0,
         };
     }
-    act::path_of(setup, at as u32, request)
+    act::route_of(setup, at as u32, request)
 }
 
 // The decision on a sound channel: its arrays are locals, changed in place.
@@ -143,10 +143,10 @@ fn decide_in_place(setup: Setup, channel: Channel, tally: Tally) -> Decision
     let mut address = channel.address;
     let mut left = channel.left;
     let mut offset = channel.offset;
-    let at = place_at(standing);
+    let at = owner_place(standing);
     let request = slot_at(&direction, &space, &address, &left, &offset, at);
-    let path = path_for(setup, at, request);
-    let decided = act_on(path, standing, request, &left, &mut inactive);
+    let route = route_for(setup, at, request);
+    let decided = act_on(route, standing, request, &left, &mut inactive);
     let slot = decided.slot;
     put_slot(
         &mut direction,
@@ -227,7 +227,7 @@ pub fn plan_of(setup: Setup, channel: Channel, slave: usize, master: usize) -> P
 }
 
 // A refused step gives back the channel and the tally that it got, and moves nothing.
-fn refused(channel: Channel, tally: Tally, why: Refusal) -> Decision
+fn refused_decision(channel: Channel, tally: Tally, why: Refusal) -> Decision
     ensures { λ r. ⌜ r ≡ refusedDecision channel tally why ⌝ }
 {
     let stepped = Stepped {
@@ -249,7 +249,7 @@ fn refused(channel: Channel, tally: Tally, why: Refusal) -> Decision
 
 // A step before its bytes are moved: refusals 9, 8 and 6, in that order, or the next channel, the tally, the entry and what is
 // to be moved.
-pub fn decide<'a>(
+pub fn decision_of<'a>(
     setup: Setup,
     channel: Channel,
     tally: Tally,
@@ -260,14 +260,14 @@ pub fn decide<'a>(
 {
     let verdict = ready_verdict(setup, channel, slave.len(), master.len());
     match verdict {
-        Verdict::Refused(why) => refused(channel, tally, why),
+        Verdict::Refused(why) => refused_decision(channel, tally, why),
         Verdict::Accepted => decide_ready(setup, channel, tally),
     }
 }
 
 // Both ranges of what is to be moved lie inside their stores. No sum here can wrap.
-fn has_room(what: Carry, slave: usize, master: usize) -> bool
-    ensures { λ r. ⌜ r ≡ hasRoom what slave master ⌝ }
+fn carry_fits(what: Carry, slave: usize, master: usize) -> bool
+    ensures { λ r. ⌜ r ≡ carryFits what slave master ⌝ }
 {
     if slave < what.bytes {
         return false;
@@ -280,10 +280,10 @@ fn has_room(what: Carry, slave: usize, master: usize) -> bool
 
 // Moves what a step was decided to move. Where a range does not lie inside its store, nothing is moved.
 pub fn carry_bytes(what: Carry, slave: &mut [u8], master: &mut [u8])
-    ensures { λ r. ⌜ now (slave .exit) ≡ carriedSlave what (now (slave .entry)) (now (master .entry)) ⌝ }
-    ensures { λ r. ⌜ now (master .exit) ≡ carriedMaster what (now (slave .entry)) (now (master .entry)) ⌝ }
+    ensures { λ r. ⌜ now (slave .exit) ≡ slaveAfterCarry what (now (slave .entry)) (now (master .entry)) ⌝ }
+    ensures { λ r. ⌜ now (master .exit) ≡ masterAfterCarry what (now (slave .entry)) (now (master .entry)) ⌝ }
 {
-    if has_room(what, slave.len(), master.len()) {
+    if carry_fits(what, slave.len(), master.len()) {
         carry(what, slave, master);
     }
 }
@@ -301,7 +301,7 @@ pub fn step(
     ensures { λ r. ⌜ now (slave .exit) ≡ slaveAfter setup channel (now (slave .entry)) (now (master .entry)) ⌝ }
     ensures { λ r. ⌜ now (master .exit) ≡ masterAfter setup channel (now (slave .entry)) (now (master .entry)) ⌝ }
 {
-    let decision = decide(setup, channel, tally, slave, master);
+    let decision = decision_of(setup, channel, tally, slave, master);
     let what = decision.carry;
     carry(what, slave, master);
     let stepped = decision.stepped;
@@ -366,7 +366,7 @@ fn refused_log(channel: Channel, tally: Tally, why: Refusal, at: usize) -> Logge
     ensures { λ r. ⌜ r ≡ refusedLog channel tally why at ⌝ }
 {
     let ran = refused_run(channel, tally, why);
-    Logged { ran: ran, past: at }
+    Logged { ran: ran, end: at }
 }
 
 // A logged run over a sound channel and stores of the right lengths: refusal 7, or its steps and their lines.
@@ -408,12 +408,12 @@ pub fn log_run(
     at: usize,
     budget: u32,
 ) -> Logged
-    ensures { λ r. ⌜ r ≡ logOf setup budget (world channel tally (now (slave .entry)) (now (master .entry))) (page (now (out .entry)) at) .result ⌝ }
-    ensures { λ r. ⌜ now (slave .exit) ≡ logOf setup budget (world channel tally (now (slave .entry)) (now (master .entry)))
+    ensures { λ r. ⌜ r ≡ logRunOf setup budget (world channel tally (now (slave .entry)) (now (master .entry))) (page (now (out .entry)) at) .result ⌝ }
+    ensures { λ r. ⌜ now (slave .exit) ≡ logRunOf setup budget (world channel tally (now (slave .entry)) (now (master .entry)))
         (page (now (out .entry)) at) .slave ⌝ }
-    ensures { λ r. ⌜ now (master .exit) ≡ logOf setup budget (world channel tally (now (slave .entry)) (now (master .entry)))
+    ensures { λ r. ⌜ now (master .exit) ≡ logRunOf setup budget (world channel tally (now (slave .entry)) (now (master .entry)))
         (page (now (out .entry)) at) .master ⌝ }
-    ensures { λ r. ⌜ now (out .exit) ≡ logOf setup budget (world channel tally (now (slave .entry)) (now (master .entry)))
+    ensures { λ r. ⌜ now (out .exit) ≡ logRunOf setup budget (world channel tally (now (slave .entry)) (now (master .entry)))
         (page (now (out .entry)) at) .out ⌝ }
 {
     let verdict = ready_verdict(setup, channel, slave.len(), master.len());

@@ -1,18 +1,18 @@
 // A run that logs: step by step, each with its line in a lent buffer, for as long as the longest line has room there. Set-up and
-// channel are tested once and the paths are looked up once, as in a run; a step is decided and carried as the single step is.
+// channel are tested once and the routes are looked up once, as in a run; a step is decided and carried as the single step is.
 use crate::Logged;
 use crate::Ran;
 use crate::StepAnswer;
 use crate::acts::Standing;
 use crate::acts::act_on;
 use crate::acts::channel_of;
-use crate::acts::place_at;
+use crate::acts::owner_place;
 use crate::acts::put_slot;
 use crate::acts::slot_at;
 use crate::cycles::carry;
-use crate::turns::paths_of;
+use crate::turns::routes_of;
 use crate::turns::verdict_of;
-use act::Path;
+use act::Route;
 use basics::PLACES;
 use channel::Channel;
 use frame::Setup;
@@ -21,7 +21,7 @@ ghost use mathlib.Core.Path.{_≡_};
 ghost use Prim.Native.Nat.{_≤_};
 ghost use lib.ListN.{length};
 ghost use Rattle.basics.specs.Limits.{stepsMost};
-ghost use Rattle.channel.specs.Channel.{Shaped, placeIn};
+ghost use Rattle.channel.specs.Channel.{Shaped, ownerPlace};
 ghost use Rattle.step.specs.Step.{Ready};
 ghost use Rattle.step.specs.Run.{world};
 ghost use Rattle.step.specs.Log.{page, logFrom};
@@ -38,7 +38,7 @@ struct Log {
 
 // One step, and its line.
 fn log_step(
-    path: Path,
+    route: Route,
     place: usize,
     log: Log,
     inactive: &mut [bool; PLACES],
@@ -51,17 +51,17 @@ fn log_step(
     master: &mut [u8],
     out: &mut [u8],
 ) -> Log
-    requires { ⌜ place ≡ placeIn (log .standing .phase) ⌝ }
-    requires { ⌜ Loggable path (runningBy (log .standing) (log .done) (log .full) (now inactive) (now direction) (now space) (now address)
+    requires { ⌜ place ≡ ownerPlace (log .standing .phase) ⌝ }
+    requires { ⌜ Loggable route (runningBy (log .standing) (log .done) (log .full) (now inactive) (now direction) (now space) (now address)
         (now left) (now offset) (now slave) (now master)) ⌝ }
     ensures { λ r. ⌜ loggingOf r (now (inactive .exit)) (now (direction .exit)) (now (space .exit)) (now (address .exit))
         (now (left .exit)) (now (offset .exit)) (now (slave .exit)) (now (master .exit)) (now (out .exit))
-        ≡ logStep path (loggingOf log (now (inactive .entry)) (now (direction .entry)) (now (space .entry))
+        ≡ logStep route (loggingOf log (now (inactive .entry)) (now (direction .entry)) (now (space .entry))
         (now (address .entry)) (now (left .entry)) (now (offset .entry)) (now (slave .entry)) (now (master .entry)) (now (out .entry))) ⌝ }
 {
     let standing = log.standing;
     let request = slot_at(direction, space, address, left, offset, place);
-    let decided = act_on(path, standing, request, left, inactive);
+    let decided = act_on(route, standing, request, left, inactive);
     let slot = decided.slot;
     put_slot(direction, space, address, left, offset, place, slot);
     let what = decided.carry;
@@ -77,12 +77,12 @@ fn log_step(
             at: log.at,
         };
     };
-    let past = logline::put_entry(out, log.at, entry);
+    let end = logline::put_entry(out, log.at, entry);
     Log {
         standing: next,
         done: log.done + 1,
         full: false,
-        at: past,
+        at: end,
     }
 }
 
@@ -117,7 +117,7 @@ pub(crate) fn log_steps(
     let mut address = channel.address;
     let mut left = channel.left;
     let mut offset = channel.offset;
-    let paths = paths_of(setup, &direction, &space, &address, &left, &offset);
+    let routes = routes_of(setup, &direction, &space, &address, &left, &offset);
     let standing = Standing {
         phase: phase,
         asked: asked,
@@ -131,11 +131,11 @@ pub(crate) fn log_steps(
         at: at,
     };
     while (log.done < budget) & !log.full & logline::has_room(out.len(), log.at) {
-        let now = log.standing;
-        let place = place_at(now);
-        let path = paths[place];
+        let current = log.standing;
+        let place = owner_place(current);
+        let route = routes[place];
         log = log_step(
-            path,
+            route,
             place,
             log,
             &mut inactive,
@@ -161,6 +161,6 @@ pub(crate) fn log_steps(
     };
     Logged {
         ran: ran,
-        past: log.at,
+        end: log.at,
     }
 }

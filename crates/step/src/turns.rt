@@ -1,24 +1,24 @@
 // How a run goes on: in turns, each a grant, a release, an idle step, or all cycles of one owner, which are looped over in
-// scalars. Set-up and channel are tested once, as every step keeps the channel sound. The paths of the open requests are
+// scalars. Set-up and channel are tested once, as every step keeps the channel sound. The routes of the open requests are
 // looked up once: none is posted during a run, and what is left of a request goes the way of the whole.
 use crate::Ran;
 use crate::acts::Acted;
 use crate::acts::Standing;
 use crate::acts::channel_of;
 use crate::acts::choose;
-use crate::acts::granted;
+use crate::acts::granted_by;
 use crate::acts::is_full;
-use crate::acts::place_at;
+use crate::acts::owner_place;
 use crate::acts::put_slot;
-use crate::acts::rest;
+use crate::acts::rest_acted;
 use crate::acts::slot_at;
 use crate::acts::standing_after;
 use crate::cycles::after_cycle;
-use crate::cycles::bytes_of;
 use crate::cycles::carry;
 use crate::cycles::carry_of;
+use crate::cycles::cycle_bytes;
 use act::Ending;
-use act::Path;
+use act::Route;
 use basics::PLACES;
 use basics::SYSTEM_MASTER;
 use channel::Asked;
@@ -41,7 +41,7 @@ ghost use Rattle.act.specs.Cycle.{cycleBytes};
 ghost use Rattle.step.specs.Step.{Ready, Way, Roomy};
 ghost use Rattle.step.specs.Run.{world, runFrom};
 ghost use Rattle.step.specs.inner.Machine.{NoneAsk, channelOf};
-ghost use Rattle.step.specs.inner.Turns.{cycled, filled, held, ArePaths, onward, cyclesRun, Lows, Turnable, runningOf, turnOf, verdictIf};
+ghost use Rattle.step.specs.inner.Turns.{cycleOn, filled, held, AreRoutes, steppedOn, cyclesRun, Lows, Turnable, runningOf, turnOf, verdictOf};
 
 // A run: what stands after its last turn, the steps done, whether the next one would pass the clock's limit, and a level
 // below which nobody waits.
@@ -63,39 +63,39 @@ struct Tenure {
 }
 
 // One cycle more of an owner.
-fn cycle_on(path: Path, asked: Asked, now: Tenure, bytes: u32) -> Tenure
-    requires { ⌜ Way path (now .request) ⌝ }
-    requires { ⌜ bytes ≡ cycleBytes path (now .request) ⌝ }
-    requires { ⌜ now .clock + path .time ≤ clockLimit ⌝ }
-    requires { ⌜ now .done < stepsMost ⌝ }
-    ensures { λ r. ⌜ r ≡ cycled path asked now ⌝ }
+fn cycle_on(route: Route, asked: Asked, tenure: Tenure, bytes: u32) -> Tenure
+    requires { ⌜ Way route (tenure .request) ⌝ }
+    requires { ⌜ bytes ≡ cycleBytes route (tenure .request) ⌝ }
+    requires { ⌜ tenure .clock + route .time ≤ clockLimit ⌝ }
+    requires { ⌜ tenure .done < stepsMost ⌝ }
+    ensures { λ r. ⌜ r ≡ cycleOn route asked tenure ⌝ }
 {
-    let clock = now.clock + path.time;
-    let after = after_cycle(path, asked, clock, now.request, bytes);
+    let clock = tenure.clock + route.time;
+    let after = after_cycle(route, asked, clock, tenure.request, bytes);
     let slot = after.rest;
     let ending = after.ending;
-    let tally = tally::add_cycle(now.tally, bytes, ending);
+    let tally = tally::add_cycle(tenure.tally, bytes, ending);
     Tenure {
         clock: clock,
         request: slot,
         tally: tally,
-        done: now.done + 1,
+        done: tenure.done + 1,
         ending: ending,
         full: false,
     }
 }
 
 // The clock has no room for another.
-fn fill(now: Tenure) -> Tenure
-    ensures { λ r. ⌜ r ≡ filled now ⌝ }
+fn fill(tenure: Tenure) -> Tenure
+    ensures { λ r. ⌜ r ≡ filled tenure ⌝ }
 {
-    let request = now.request;
-    let tally = now.tally;
+    let request = tenure.request;
+    let tally = tenure.tally;
     Tenure {
-        clock: now.clock,
+        clock: tenure.clock,
         request: request,
         tally: tally,
-        done: now.done,
+        done: tenure.done,
         ending: Ending::Kept,
         full: true,
     }
@@ -103,41 +103,41 @@ fn fill(now: Tenure) -> Tenure
 
 // Cycles of one owner, until it releases the channel, the clock is full or the budget is used up.
 fn hold_channel(
-    path: Path,
+    route: Route,
     asked: Asked,
     from: Tenure,
     slave: &mut [u8],
     master: &mut [u8],
     budget: u32,
 ) -> Tenure
-    requires { ⌜ Roomy path (from .request) (length (now slave)) (length (now master)) ⌝ }
+    requires { ⌜ Roomy route (from .request) (length (now slave)) (length (now master)) ⌝ }
     requires { ⌜ from .clock ≤ clockLimit ⌝ }
     requires { ⌜ budget ≤ stepsMost ⌝ }
-    ensures { λ r. ⌜ r ≡ held path asked (budget - from .done) from (now (slave .entry)) (now (master .entry)) .tenure ⌝ }
-    ensures { λ r. ⌜ now (slave .exit) ≡ held path asked (budget - from .done) from (now (slave .entry)) (now (master .entry)) .slave ⌝ }
-    ensures { λ r. ⌜ now (master .exit) ≡ held path asked (budget - from .done) from (now (slave .entry)) (now (master .entry)) .master ⌝ }
+    ensures { λ r. ⌜ r ≡ held route asked (budget - from .done) from (now (slave .entry)) (now (master .entry)) .tenure ⌝ }
+    ensures { λ r. ⌜ now (slave .exit) ≡ held route asked (budget - from .done) from (now (slave .entry)) (now (master .entry)) .slave ⌝ }
+    ensures { λ r. ⌜ now (master .exit) ≡ held route asked (budget - from .done) from (now (slave .entry)) (now (master .entry)) .master ⌝ }
 {
-    let mut now = from;
-    while now.done < budget {
-        if is_full(now.clock, path.time) {
-            return fill(now);
+    let mut tenure = from;
+    while tenure.done < budget {
+        if is_full(tenure.clock, route.time) {
+            return fill(tenure);
         }
-        let request = now.request;
-        let bytes = bytes_of(path, request);
-        carry(carry_of(path, request, bytes), slave, master);
-        now = cycle_on(path, asked, now, bytes);
-        let ending = now.ending;
+        let request = tenure.request;
+        let bytes = cycle_bytes(route, request);
+        carry(carry_of(route, request, bytes), slave, master);
+        tenure = cycle_on(route, asked, tenure, bytes);
+        let ending = tenure.ending;
         if !act::is_kept(ending) {
-            return now;
+            return tenure;
         }
     }
-    now
+    tenure
 }
 
 // A turn of one step.
 fn stepped_on(acted: Acted, done: u32, low: u8) -> State
     requires { ⌜ done < stepsMost ⌝ }
-    ensures { λ r. ⌜ r ≡ onward acted done low ⌝ }
+    ensures { λ r. ⌜ r ≡ steppedOn acted done low ⌝ }
 {
     let standing = acted.standing;
     State {
@@ -150,7 +150,7 @@ fn stepped_on(acted: Acted, done: u32, low: u8) -> State
 
 // The owner's cycles, on the lent arrays.
 fn run_cycles(
-    path: Path,
+    route: Route,
     at: usize,
     state: State,
     request: Request,
@@ -168,12 +168,12 @@ fn run_cycles(
     requires { ⌜ state .standing .phase ≡ Phase.Granted at ⌝ }
     requires { ⌜ isInactive (now inactive) at ≡ false ⌝ }
     requires { ⌜ request ≡ requestAt (now direction) (now space) (now address) (now left) (now offset) at ⌝ }
-    requires { ⌜ Roomy path request (length (now slave)) (length (now master)) ⌝ }
+    requires { ⌜ Roomy route request (length (now slave)) (length (now master)) ⌝ }
     requires { ⌜ state .standing .clock ≤ clockLimit ⌝ }
     requires { ⌜ budget ≤ stepsMost ⌝ }
     ensures { λ r. ⌜ runningOf r (now (inactive .exit)) (now (direction .exit)) (now (space .exit)) (now (address .exit))
         (now (left .exit)) (now (offset .exit)) (now (slave .exit)) (now (master .exit))
-        ≡ cyclesRun path budget at (runningOf state (now (inactive .entry)) (now (direction .entry)) (now (space .entry))
+        ≡ cyclesRun route budget at (runningOf state (now (inactive .entry)) (now (direction .entry)) (now (space .entry))
         (now (address .entry)) (now (left .entry)) (now (offset .entry)) (now (slave .entry)) (now (master .entry))) ⌝ }
     ensures { λ r. ⌜ r .low ≡ state .low ⌝ }
 {
@@ -188,7 +188,7 @@ fn run_cycles(
         ending: Ending::Kept,
         full: false,
     };
-    let tenure = hold_channel(path, asked, from, slave, master, budget);
+    let tenure = hold_channel(route, asked, from, slave, master, budget);
     let slot = tenure.request;
     put_slot(direction, space, address, left, offset, at, slot);
     let ending = tenure.ending;
@@ -205,7 +205,7 @@ fn run_cycles(
 
 // One turn.
 fn turn(
-    path: Path,
+    route: Route,
     base: u8,
     state: State,
     inactive: &mut [bool; PLACES],
@@ -218,11 +218,11 @@ fn turn(
     master: &mut [u8],
     budget: u32,
 ) -> State
-    requires { ⌜ Turnable path base (state .low) budget (runningOf state (now inactive) (now direction) (now space) (now address)
+    requires { ⌜ Turnable route base (state .low) budget (runningOf state (now inactive) (now direction) (now space) (now address)
         (now left) (now offset) (now slave) (now master)) ⌝ }
     ensures { λ r. ⌜ runningOf r (now (inactive .exit)) (now (direction .exit)) (now (space .exit)) (now (address .exit))
         (now (left .exit)) (now (offset .exit)) (now (slave .exit)) (now (master .exit))
-        ≡ turnOf path budget (runningOf state (now (inactive .entry)) (now (direction .entry)) (now (space .entry))
+        ≡ turnOf route budget (runningOf state (now (inactive .entry)) (now (direction .entry)) (now (space .entry))
         (now (address .entry)) (now (left .entry)) (now (offset .entry)) (now (slave .entry)) (now (master .entry))) ⌝ }
     ensures { λ r. ⌜ Lows base (r .low) (channelOf (r .standing) (now (inactive .exit)) (now (direction .exit)) (now (space .exit))
         (now (address .exit)) (now (left .exit)) (now (offset .exit))) ⌝ }
@@ -240,16 +240,16 @@ fn turn(
                 };
             }
             let chosen = choose(left, inactive, base, state.low);
-            stepped_on(granted(standing, chosen), state.done, chosen.low)
+            stepped_on(granted_by(standing, chosen), state.done, chosen.low)
         }
         Phase::Granted(owner) => {
             let at = owner as usize;
             let request = slot_at(direction, space, address, left, offset, at);
             if request.left == 0 {
-                return stepped_on(rest(standing, owner), state.done, state.low);
+                return stepped_on(rest_acted(standing, owner), state.done, state.low);
             }
             run_cycles(
-                path,
+                route,
                 at,
                 state,
                 request,
@@ -281,19 +281,19 @@ fn lowest(left: &[u32; PLACES]) -> u8
     level
 }
 
-// The paths of the open requests, by level.
-pub(crate) fn paths_of<'a>(
+// The routes of the open requests, by level.
+pub(crate) fn routes_of<'a>(
     setup: Setup,
     direction: &'a [u32; PLACES],
     space: &'a [u32; PLACES],
     address: &'a [u32; PLACES],
     left: &'a [u32; PLACES],
     offset: &'a [u32; PLACES],
-) -> [Path; PLACES]
-    ensures { λ r. ⌜ ArePaths setup (requestAt (now (direction .entry)) (now (space .entry)) (now (address .entry)) (now (left .entry))
+) -> [Route; PLACES]
+    ensures { λ r. ⌜ AreRoutes setup (requestAt (now (direction .entry)) (now (space .entry)) (now (address .entry)) (now (left .entry))
         (now (offset .entry))) r places ⌝ }
 {
-    let none = Path {
+    let none = Route {
         width: 0,
         options: 0,
         port: 0,
@@ -302,22 +302,22 @@ pub(crate) fn paths_of<'a>(
         allowed: 0,
         start: 0,
     };
-    let mut paths = [none; PLACES];
+    let mut routes = [none; PLACES];
     let mut level: usize = 0;
     while level < PLACES {
         if left[level] == 0 {
             level += 1;
         } else {
             let request = slot_at(direction, space, address, left, offset, level);
-            paths[level] = act::path_of(setup, level as u32, request);
+            routes[level] = act::route_of(setup, level as u32, request);
             level += 1;
         }
     }
-    paths
+    routes
 }
 
 pub(crate) fn verdict_of(full: bool) -> Verdict
-    ensures { λ r. ⌜ r ≡ verdictIf full ⌝ }
+    ensures { λ r. ⌜ r ≡ verdictOf full ⌝ }
 {
     if full {
         return Verdict::Refused(Refusal::ClockFull);
@@ -349,7 +349,7 @@ pub(crate) fn run_steps(
     let mut address = channel.address;
     let mut left = channel.left;
     let mut offset = channel.offset;
-    let paths = paths_of(setup, &direction, &space, &address, &left, &offset);
+    let routes = routes_of(setup, &direction, &space, &address, &left, &offset);
     let base = lowest(&left);
     let standing = Standing {
         phase: phase,
@@ -364,11 +364,11 @@ pub(crate) fn run_steps(
         low: base,
     };
     while (state.done < budget) & !state.full {
-        let now = state.standing;
-        let at = place_at(now);
-        let path = paths[at];
+        let current = state.standing;
+        let at = owner_place(current);
+        let route = routes[at];
         state = turn(
-            path,
+            route,
             base,
             state,
             &mut inactive,

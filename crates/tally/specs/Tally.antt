@@ -10,11 +10,11 @@ use Rattle.act.specs.declared.Entry.the-variants.{Idle, Grant, Cycle, Release}
 use Rattle.tally.specs.declared.Tally.{Tally}
 
 -- "a figure stops at 4,294,967,295"
-abbrev pub capped : ℕ → ℕ → ℕ
-capped a b = min (a + b) 4294967295
+abbrev pub addCapped : ℕ → ℕ → ℕ
+addCapped a b = min (a + b) 4294967295
 
-abbrev pub larger : ℕ → ℕ → ℕ
-larger a b = max a b
+abbrev pub largerOf : ℕ → ℕ → ℕ
+largerOf a b = max a b
 
 -- a tally of nothing
 abbrev pub noTally : Tally
@@ -32,21 +32,21 @@ endingFigure (Marked time) = time
 
 -- "grants": one more
 unfoldable pub addGrant : Tally → Tally
-addGrant t = record { grants = capped (t .grants) 1; cycles = t .cycles; bytes = t .bytes; hold = t .hold }
+addGrant t = record { grants = addCapped (t .grants) 1; cycles = t .cycles; bytes = t .bytes; hold = t .hold }
 
--- "cycles, bytes moved": one more cycle, of so many bytes; and "longest hold" where it ends in a release
+-- "cycles, bytes moved": one more cycle, of these bytes; and "longest hold" where it ends in a release
 unfoldable pub addCycle : Tally → ℕ → Ending → Tally
 addCycle t bytes ending =
     record {
       grants = t .grants;
-      cycles = capped (t .cycles) 1;
-      bytes = capped (t .bytes) bytes;
-      hold = larger (t .hold) (endingFigure ending);
+      cycles = addCapped (t .cycles) 1;
+      bytes = addCapped (t .bytes) bytes;
+      hold = largerOf (t .hold) (endingFigure ending);
     }
 
 -- "longest hold": a release without a request
 unfoldable pub addRelease : Tally → Hold → Tally
-addRelease t hold = record { grants = t .grants; cycles = t .cycles; bytes = t .bytes; hold = larger (t .hold) (holdFigure hold) }
+addRelease t hold = record { grants = t .grants; cycles = t .cycles; bytes = t .bytes; hold = largerOf (t .hold) (holdFigure hold) }
 
 -- "Each step .. adds to the tally by that entry"
 abbrev pub addEntry : Tally → Entry → Tally

@@ -4,7 +4,7 @@ use act::Ending;
 use act::Entry;
 use act::Hold;
 ghost use mathlib.Core.Path.{_≡_};
-ghost use Rattle.tally.specs.Tally.{noTally, capped, larger, holdFigure, endingFigure, addGrant, addCycle, addRelease, addEntry};
+ghost use Rattle.tally.specs.Tally.{noTally, addCapped, largerOf, holdFigure, endingFigure, addGrant, addCycle, addRelease, addEntry};
 
 pub struct Tally {
     pub grants: u32,
@@ -27,7 +27,7 @@ pub fn no_tally() -> Tally
 
 // A sum that stops at 4,294,967,295.
 fn add_capped(a: u32, b: u32) -> u32
-    ensures { λ r. ⌜ r ≡ capped a b ⌝ }
+    ensures { λ r. ⌜ r ≡ addCapped a b ⌝ }
 {
     let sum = a as u64 + b as u64;
     if sum < 4294967295 {
@@ -38,7 +38,7 @@ fn add_capped(a: u32, b: u32) -> u32
 }
 
 fn larger_of(a: u32, b: u32) -> u32
-    ensures { λ r. ⌜ r ≡ larger a b ⌝ }
+    ensures { λ r. ⌜ r ≡ largerOf a b ⌝ }
 {
     if a < b { b } else { a }
 }
@@ -75,7 +75,7 @@ pub fn add_grant(tally: Tally) -> Tally
     }
 }
 
-// One more cycle, of so many bytes and with this ending.
+// One more cycle, of these bytes and with this ending.
 pub fn add_cycle(tally: Tally, bytes: u32, ending: Ending) -> Tally
     ensures { λ r. ⌜ r ≡ addCycle tally bytes ending ⌝ }
 {

@@ -1,15 +1,15 @@
-use Rattle.channel.specs.Line.{cleared}
+use Rattle.channel.specs.Line.{clearMarks}
 use borrow.Author.Needs.{needs}
 use mathlib.Core.Path.{refl, sym, _∙_}
 use Rattle.channel.proofs.clear_marks.Statement.{statement}
 use Rattle.channel.proofs.clear_marks.Tie as tie
 
 returns : tie.Need-returns
-unfolding cleared
+unfolding clearMarks
 returns c = rw (sym (c .before .line-active .ensures) ∙ c .if1 .taken)
 
 returns-2 : tie.Need-returns-2
-unfolding cleared
+unfolding clearMarks
 returns-2 c = rw (sym (c .before .before .line-active .ensures) ∙ c .before .if1 .left)
 
 pub clear-marks-spec : {M : Type 1} → statement M

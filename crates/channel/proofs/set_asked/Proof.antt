@@ -1,10 +1,10 @@
-use Rattle.channel.specs.Line.{timed}
+use Rattle.channel.specs.Line.{setAsked}
 use borrow.Author.Needs.{needs}
 use Rattle.channel.proofs.set_asked.Statement.{statement}
 use Rattle.channel.proofs.set_asked.Tie as tie
 
 returns : tie.Need-returns
-unfolding timed
+unfolding setAsked
 returns c =
     let five = c .before .before .before .before .before in
     rw (five .before .asked-now .ensures, five .before .before .line-active .ensures)

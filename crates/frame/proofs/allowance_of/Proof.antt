@@ -1,10 +1,10 @@
-use Rattle.frame.specs.Allowance.{allowance}
+use Rattle.frame.specs.Allowance.{allowanceOf}
 use mathlib.Core.Path.{refl}
 use Rattle.frame.proofs.allowance_of.Statement.{statement}
 use Rattle.frame.proofs.allowance_of.Tie as tie
 
 returns : tie.Need-returns
-unfolding allowance
+unfolding allowanceOf
 returns c = refl
 
 pub allowance-of-spec : {M : Type 1} → statement M

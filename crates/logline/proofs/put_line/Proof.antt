@@ -1,7 +1,7 @@
 use Prim.Native.Nat.{ℕ, _+_, _-_, _*_, _≤_}
 use Rattle.logline.proofs.DigitLaws.{digits-most}
 use Rattle.logline.proofs.TextLaws.{room-is, fields-more, fields-none, write-more}
-use Rattle.logline.specs.Text.{digits, field, fieldsFrom, past, written}
+use Rattle.logline.specs.Text.{digits, field, fieldsFrom, placeAfter, outAfter}
 use borrow.Author.Needs.{needs}
 use borrow.Author.Tests.{not-true, not-false}
 use lib.ListN.{getD}
@@ -28,7 +28,7 @@ abbrev μ-loop : tie.MeasureT-loop
 μ-loop out₀ at letter count numbers next₀ i₀ out next i = count - i
 
 returns : tie.Need-returns Inv-loop μ-loop
-unfolding past written
+unfolding placeAfter outAfter
 returns c =
     let e = sym (c .before .has-room .ensures) ∙ not-true (c .before .has-room .result) (c .if1 .taken) in
     (rw e, rw e)
@@ -85,7 +85,7 @@ same-length : tie.Need-same-length Inv-loop μ-loop
 same-length c = let l = c .before .loop in simp length-set (simp length-set at (l .inv .4))
 
 returns-2 : tie.Need-returns-2 Inv-loop μ-loop
-unfolding past written
+unfolding placeAfter outAfter
 returns-2 c =
     let a = c .before .before .before .before .before .args in
     let l = c .before .loop in

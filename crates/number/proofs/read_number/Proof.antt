@@ -3,13 +3,13 @@ use borrow.Author.Needs.{needs}
 use denote.Ref.{now}
 use mathlib.Core.Path.{sym}
 use native.Mathlib.Omega.{arith}
-use Rattle.number.specs.Number.{readAt}
+use Rattle.number.specs.Number.{readNumber}
 use Rattle.number.proofs.Laws.{last}
 use Rattle.number.proofs.read_number.Statement.{statement}
 use Rattle.number.proofs.read_number.Tie as tie
 
 returns : tie.Need-returns
-unfolding readAt
+unfolding readNumber
 returns c =
     let a = c .before .before .before .before .args in
     sym (last (a .at) (a .at) (now (a .s)) 4 (omega arith) (omega arith) (omega arith))
@@ -18,7 +18,7 @@ groups-at-requires : tie.Need-groups-at-requires
 groups-at-requires c κs = search needs
 
 returns-2 : tie.Need-returns-2
-unfolding readAt
+unfolding readNumber
 returns-2 c = c .groups-at .ensures .0
 
 pub read-number-spec : {M : Type 1} → statement M

@@ -1,7 +1,7 @@
 -- The loop's invariant: the numbers counted and those left are all. A number has a byte or more, so that as many are left as bytes.
 use Prim.Native.Nat.{suc, _+_, _-_, _≤_}
 use Rattle.number.proofs.Laws.{read-within, read-end}
-use Rattle.number.specs.Number.{readAt}
+use Rattle.number.specs.Number.{readNumber}
 use Rattle.numbers.proofs.Laws.{numbers-on, numbers-end}
 use Rattle.numbers.specs.Numbers.{numbers, numbersOf}
 use borrow.Author.Needs.{needs}
@@ -16,7 +16,7 @@ use Rattle.numbers.proofs.count_numbers.Tie as tie
 abbrev Inv-loop : tie.InvT-loop
 Inv-loop bytes count₀ at₀ count at =
     (count ≤ at) × (at ≤ length bytes)
-    × (count + length (numbers (readAt bytes) (length bytes - count) at) ≡ length (numbersOf bytes))
+    × (count + length (numbers (readNumber bytes) (length bytes - count) at) ≡ length (numbersOf bytes))
 
 abbrev μ-loop : tie.MeasureT-loop
 μ-loop bytes count₀ at₀ count at = length bytes - at
@@ -35,7 +35,7 @@ returns c =
       arith,
       l .inv .2,
       ap length
-          (numbers-end (readAt s) (length s - l .count) (l .at) (sym (c .before .before .read-number .ensures) ∙ c .enum-told .given .1)),
+          (numbers-end (readNumber s) (length s - l .count) (l .at) (sym (c .before .before .read-number .ensures) ∙ c .enum-told .given .1)),
     )
 
 loop-less : tie.Need-loop-less Inv-loop μ-loop
@@ -58,7 +58,7 @@ loop-again c =
     let more : length s - l .count ≡ suc (length s - (l .count + 1)) = omega arith in
     let r = sym (c .before .before .before .read-number .ensures) ∙ c .before .got .given .1 in
     let w = read-within s (l .at) r in
-    (omega arith, omega arith, omega (arith, l .inv .2, ap length (numbers-on (readAt s) (l .at) more r)))
+    (omega arith, omega arith, omega (arith, l .inv .2, ap length (numbers-on (readNumber s) (l .at) more r)))
 
 returns-2 : tie.Need-returns-2 Inv-loop μ-loop
 returns-2 c =
@@ -66,7 +66,7 @@ returns-2 c =
     omega (
       arith,
       c .before .loop .inv .2,
-      ap length (numbers-end (readAt s) (length s - c .before .loop .count) (c .before .loop .at)
+      ap length (numbers-end (readNumber s) (length s - c .before .loop .count) (c .before .loop .at)
           (read-end s (c .before .loop .at) (c .loop-test .left))),
     )
 

@@ -1,7 +1,7 @@
 -- The loop's invariant: the numbers left, written after those that were, give the slice at the end.
 use Prim.Native.Nat.{suc, _+_, _-_, _≤_}
 use Rattle.number.proofs.Laws.{read-within, read-end}
-use Rattle.number.specs.Number.{readAt}
+use Rattle.number.specs.Number.{readNumber}
 use Rattle.numbers.proofs.Laws.{numbers-on, numbers-end, stored-on}
 use Rattle.numbers.specs.Numbers.{numbers, numbersOf}
 use borrow.Author.Needs.{needs}
@@ -17,8 +17,8 @@ use Rattle.numbers.proofs.put_copy.Tie as tie
 abbrev Inv-loop : tie.InvT-loop
 Inv-loop bytes out₀ i₀ at₀ out i at =
     (i ≤ at) × (at ≤ length bytes)
-    × (i + length (numbers (readAt bytes) (length bytes - i) at) ≡ length (numbersOf bytes))
-    × (sets out i (numbers (readAt bytes) (length bytes - i) at) ≡ sets out₀ 0 (numbersOf bytes))
+    × (i + length (numbers (readNumber bytes) (length bytes - i) at) ≡ length (numbersOf bytes))
+    × (sets out i (numbers (readNumber bytes) (length bytes - i) at) ≡ sets out₀ 0 (numbersOf bytes))
     × (length out ≡ length out₀)
 
 abbrev μ-loop : tie.MeasureT-loop
@@ -39,7 +39,7 @@ slice-write-out c =
       arith,
       l .inv .2,
       ap length
-          (numbers-on (readAt s) (l .at) more (sym (c .before .before .before .read-number .ensures) ∙ c .before .got .given .1)),
+          (numbers-on (readNumber s) (l .at) more (sym (c .before .before .before .read-number .ensures) ∙ c .before .got .given .1)),
     )
 
 loop-less : tie.Need-loop-less Inv-loop μ-loop
@@ -64,8 +64,8 @@ loop-again c =
     let w = read-within s (l .at) r in (
       omega arith,
       omega arith,
-      omega (arith, l .inv .2, ap length (numbers-on (readAt s) (l .at) more r)),
-      stored-on (readAt s) (l .at) more (l .out) (l .i) r ∙ l .inv .3,
+      omega (arith, l .inv .2, ap length (numbers-on (readNumber s) (l .at) more r)),
+      stored-on (readNumber s) (l .at) more (l .out) (l .i) r ∙ l .inv .3,
       simp length-set (l .inv .4),
     )
 
@@ -79,7 +79,7 @@ returns c =
     let l = c .before .before .before .before .loop in
     let s = now (a .bytes) in
     sym (ap (sets (l .out) (l .i))
-    (numbers-end (readAt s) (length s - l .i) (l .at) (sym (c .before .before .read-number .ensures) ∙ c .enum-told .given .1)))
+    (numbers-end (readNumber s) (length s - l .i) (l .at) (sym (c .before .before .read-number .ensures) ∙ c .enum-told .given .1)))
     ∙ l .inv .3
 
 same-length-2 : tie.Need-same-length-2 Inv-loop μ-loop
@@ -89,7 +89,7 @@ returns-2 : tie.Need-returns-2 Inv-loop μ-loop
 returns-2 c =
     let s = now (c .before .before .before .before .args .bytes) in
     sym (ap (sets (c .before .loop .out) (c .before .loop .i))
-    (numbers-end (readAt s) (length s - c .before .loop .i) (c .before .loop .at)
+    (numbers-end (readNumber s) (length s - c .before .loop .i) (c .before .loop .at)
     (read-end s (c .before .loop .at) (c .loop-test .left)))) ∙ c .before .loop .inv .3
 
 pub put-copy-spec : {M : Type 1} → statement M

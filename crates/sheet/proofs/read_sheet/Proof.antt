@@ -1,7 +1,7 @@
-use Rattle.number.specs.Number.{readAt}
+use Rattle.number.specs.Number.{readNumber}
 use Rattle.numbers.specs.Numbers.{numbersOf, copyNumbers, copyNumbersAfter}
 use Rattle.sheet.proofs.Answers.{answer-fault, answer-done, answer-short}
-use Rattle.sheet.specs.Sheet.{sheet, readAnswer, readStored}
+use Rattle.sheet.specs.Sheet.{sheet, readSheet, readSheetAfter}
 use borrow.Author.Needs.{needs}
 use denote.Ref.{now}
 use lib.ListN.{length}
@@ -10,30 +10,30 @@ use Rattle.sheet.proofs.read_sheet.Statement.{statement}
 use Rattle.sheet.proofs.read_sheet.Tie as tie
 
 returns : tie.Need-returns
-unfolding readAnswer readStored
+unfolding readSheet readSheetAfter
 returns c =
     let five = c .before .before .before .before .before in
     let a = five .before .before .args in
-    answer-fault (sheet (readAt (now (a .bytes))) (length (now (a .bytes)))) (numbersOf (now (a .bytes))) (now (a .out))
+    answer-fault (sheet (readNumber (now (a .bytes))) (length (now (a .bytes)))) (numbersOf (now (a .bytes))) (now (a .out))
     (sym (c .before .before .before .judge .ensures) ∙ c .before .judged .given .1)
 
 returns-2 : tie.Need-returns-2
-unfolding readAnswer readStored copyNumbers copyNumbersAfter
+unfolding readSheet readSheetAfter copyNumbers copyNumbersAfter
 returns-2 c =
     let five = c .before .before .before .before .before in
     let nine = five .before .before .before .before in
     let a = nine .before .before .before .before .args in
-    answer-done (sheet (readAt (now (a .bytes))) (length (now (a .bytes)))) (numbersOf (now (a .bytes))) (now (a .out))
+    answer-done (sheet (readNumber (now (a .bytes))) (length (now (a .bytes)))) (numbersOf (now (a .bytes))) (now (a .out))
     (sym (nine .judge .ensures) ∙ five .before .before .enum-told .given .1) (five .copy-numbers .ensures .1)
     (sym (five .copy-numbers .ensures .0) ∙ c .before .copied .given .1)
 
 returns-3 : tie.Need-returns-3
-unfolding readAnswer readStored copyNumbers copyNumbersAfter
+unfolding readSheet readSheetAfter copyNumbers copyNumbersAfter
 returns-3 c =
     let five = c .before .before .before .before .before in
     let nine = five .before .before .before .before in
     let a = nine .before .before .before .before .args in
-    answer-short (sheet (readAt (now (a .bytes))) (length (now (a .bytes)))) (numbersOf (now (a .bytes))) (now (a .out))
+    answer-short (sheet (readNumber (now (a .bytes))) (length (now (a .bytes)))) (numbersOf (now (a .bytes))) (now (a .out))
     (sym (nine .judge .ensures) ∙ five .before .before .enum-told .given .1) (five .copy-numbers .ensures .1)
     (sym (five .copy-numbers .ensures .0) ∙ c .before .copied2 .given .1)
 

@@ -1,6 +1,6 @@
 use Rattle.numbers.specs.Numbers.{listAt, allBytes, writeNumbers, writeNumbersAfter}
 use Rattle.sheet.proofs.Answers.{answer-fault, answer-done, answer-short}
-use Rattle.sheet.specs.Sheet.{sheet, writeAnswer, writeStored}
+use Rattle.sheet.specs.Sheet.{sheet, writeSheet, writeSheetAfter}
 use borrow.Author.Needs.{needs}
 use denote.Ref.{now}
 use lib.ListN.{length}
@@ -9,7 +9,7 @@ use Rattle.sheet.proofs.write_sheet.Statement.{statement}
 use Rattle.sheet.proofs.write_sheet.Tie as tie
 
 returns : tie.Need-returns
-unfolding writeAnswer writeStored
+unfolding writeSheet writeSheetAfter
 returns c =
     let five = c .before .before .before .before .before in
     let a = five .before .before .args in
@@ -17,7 +17,7 @@ returns c =
     (sym (c .before .before .before .judge .ensures) ∙ c .before .judged .given .1)
 
 returns-2 : tie.Need-returns-2
-unfolding writeAnswer writeStored writeNumbers writeNumbersAfter
+unfolding writeSheet writeSheetAfter writeNumbers writeNumbersAfter
 returns-2 c =
     let five = c .before .before .before .before .before in
     let nine = five .before .before .before .before in
@@ -27,7 +27,7 @@ returns-2 c =
     (sym (five .write-numbers .ensures .0) ∙ c .before .written .given .1)
 
 returns-3 : tie.Need-returns-3
-unfolding writeAnswer writeStored writeNumbers writeNumbersAfter
+unfolding writeSheet writeSheetAfter writeNumbers writeNumbersAfter
 returns-3 c =
     let five = c .before .before .before .before .before in
     let nine = five .before .before .before .before in

@@ -21,7 +21,7 @@ are-clauses-sound-spec =
     (λ c κs. search needs)  -- are-requests-sound-requires
     (λ c κs. search needs)  -- line-active-requires
     (λ c κs. search needs)  -- are-marks-sound-requires
-    (λ c κs. search needs)  -- place-of-requires
+    (λ c κs. search needs)  -- owner-place-requires
     request-at-requires
     (λ c κs. search needs)  -- is-asked-sound-requires
     (λ c κs. search needs)  -- is-clock-sound-requires

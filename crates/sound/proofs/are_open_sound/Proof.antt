@@ -3,7 +3,7 @@ use Rattle.basics.proofs.ScanLaws.{all-more, all-miss}
 use Rattle.basics.specs.Limits.{places, rowsMost}
 use Rattle.basics.specs.Scan.{allBelow}
 use Rattle.channel.specs.declared.Request.{Request}
-use Rattle.frame.specs.Frame.{present as presentRows}
+use Rattle.frame.specs.Frame.{rowsPresent as presentRows}
 use Rattle.sound.proofs.TableLaws.{SearchedTo, searched-none, turn-closed, turn-none, turn-held, turn-on}
 use Rattle.sound.specs.inner.Tables.{requestAt, openSound, areOpenSound}
 use borrow.Author.Tests.{not-true, not-false, eq-eqb, ne-eqb}

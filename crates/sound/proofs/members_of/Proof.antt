@@ -1,6 +1,6 @@
 use Prim.Native.Nat.{_+_, _-_, _≤_}
 use Rattle.basics.specs.Limits.{places}
-use Rattle.frame.specs.Frame.{present as presentRows}
+use Rattle.frame.specs.Frame.{rowsPresent as presentRows}
 use Rattle.sound.proofs.TableLaws.{TellsFrom, tells-none, tells-more, tells-same, tells-all}
 use Rattle.frame.specs.Rows.{isLevel}
 use Rattle.sound.specs.inner.Tables.{isFairRow}

@@ -24,5 +24,5 @@ sound-store-spec =
     returns
     are-clauses-sound-requires
     returns-2
-    (λ c κs. search needs)  -- slave-store-requires
+    (λ c κs. search needs)  -- fitting-store-requires
     returns-3)

@@ -10,15 +10,15 @@ slot-at-requires c κs =
     let ten = five .before .before .before .before .before in
     let a = ten .before .before .args in
     let p = ten .before .before .pre in
-    rw (five .place-at .ensures) (place-small (a .setup) (a .channel) (a .tally) _ _ (p .0) (p .1))
+    rw (five .owner-place .ensures) (place-small (a .setup) (a .channel) (a .tally) _ _ (p .0) (p .1))
 
-path-for-requires : tie.Need-path-for-requires
-path-for-requires c κs =
+route-for-requires : tie.Need-route-for-requires
+route-for-requires c κs =
     let five = c .before .before .before .before .before in
     let ten = five .before .before .before .before .before in
     let a = ten .before .before .before .args in
     let p = ten .before .before .before .pre in
-    rw (five .before .place-at .ensures) (place-small (a .setup) (a .channel) (a .tally) _ _ (p .0) (p .1))
+    rw (five .before .owner-place .ensures) (place-small (a .setup) (a .channel) (a .tally) _ _ (p .0) (p .1))
 
 act-on-requires : tie.Need-act-on-requires
 act-on-requires c κs =
@@ -27,8 +27,8 @@ act-on-requires c κs =
     let fifteen = ten .before .before .before .before .before in
     let a = fifteen .before .args in
     let p = fifteen .before .pre in
-    actable (a .setup) (a .channel) (a .tally) _ _ (p .0) (p .1) _ (five .before .before .before .before .place-at .ensures) _
-    (c .before .before .before .slot-at .ensures) _ (c .before .before .path-for .ensures)
+    actable (a .setup) (a .channel) (a .tally) _ _ (p .0) (p .1) _ (five .before .before .before .before .owner-place .ensures) _
+    (c .before .before .before .slot-at .ensures) _ (c .before .before .route-for .ensures)
 
 put-slot-requires : tie.Need-put-slot-requires
 put-slot-requires c κs =
@@ -38,7 +38,7 @@ put-slot-requires c κs =
     let twenty = fifteen .before .before .before .before .before in
     let a = twenty .before .before .before .args in
     let p = twenty .before .before .before .pre in
-    rw (fifteen .before .place-at .ensures) (place-small (a .setup) (a .channel) (a .tally) _ _ (p .0) (p .1))
+    rw (fifteen .before .owner-place .ensures) (place-small (a .setup) (a .channel) (a .tally) _ _ (p .0) (p .1))
 
 returns : tie.Need-returns
 returns c =
@@ -51,17 +51,17 @@ returns c =
     let p = twenty-five .before .before .before .before .pre in
     let d = ten .before .before .act-on .ensures in
     let slots = five .put-slot .ensures in
-    decision-made (a .setup) (a .channel) (a .tally) _ _ (p .0) (p .1) _ (twenty .before .before .place-at .ensures) _
-    (fifteen .before .slot-at .ensures) _ (fifteen .path-for .ensures)
+    decision-made (a .setup) (a .channel) (a .tally) _ _ (p .0) (p .1) _ (twenty .before .before .owner-place .ensures) _
+    (fifteen .before .slot-at .ensures) _ (fifteen .route-for .ensures)
     _ _ _ (d .0) (d .1) (c .channel-of .ensures ∙ rw (slots .0, slots .1 .0, slots .1 .1 .0, slots .1 .1 .1 .0, slots .1 .1 .1 .1))
 
 pub decide-in-place-spec : {M : Type 1} → statement M
 decide-in-place-spec =
     tie.close
     (tie.spec
-    (λ c κs. search needs)  -- place-at-requires
+    (λ c κs. search needs)  -- owner-place-requires
     slot-at-requires
-    path-for-requires
+    route-for-requires
     act-on-requires
     put-slot-requires
     (λ c κs. search needs)  -- channel-of-requires

@@ -1,6 +1,6 @@
 use mathlib.Core.Path.{sym, _∙_}
 use Rattle.step.proofs.PlanLaws.{ready-is}
-use Rattle.step.specs.Log.{logOf}
+use Rattle.step.specs.Log.{logRunOf}
 use borrow.Author.Needs.{needs}
 use Rattle.step.proofs.log_run.Statement.{statement}
 use Rattle.step.proofs.log_run.Tie as tie
@@ -12,13 +12,13 @@ log-ready-requires c κs =
     ready-is (a .setup) (a .channel) _ _ (sym (five .ready-verdict .ensures) ∙ c .before .before .before .enum-told .given .1)
 
 returns : tie.Need-returns
-unfolding logOf
+unfolding logRunOf
 returns c =
     let e = sym (c .before .before .before .before .ready-verdict .ensures) ∙ c .before .before .verdict .given .1 in
     (rw e (c .refused-log .ensures), (rw e, (rw e, rw e)))
 
 returns-2 : tie.Need-returns-2
-unfolding logOf
+unfolding logRunOf
 returns-2 c =
     let five = c .before .before .before .before .before in
     let ten = five .before .before .before .before .before in

@@ -9,14 +9,14 @@ carry-requires : tie.Need-carry-requires
 carry-requires c κs =
     let five = c .before .before .before .before .before in
     let a = five .before .before .before .args in
-    rw (c .before .before .before .decide .ensures) (decided-room (a .setup) (a .channel) (a .slave .now) (a .master .now) (a .tally))
+    rw (c .before .before .before .decision-of .ensures) (decided-room (a .setup) (a .channel) (a .slave .now) (a .master .now) (a .tally))
 
 returns : tie.Need-returns
 returns c =
     let five = c .before .before .before .before .before in
     let ten = five .before .before .before .before .before in
     let a = ten .before .before .before .before .args in
-    let d = five .before .before .before .before .decide .ensures in
+    let d = five .before .before .before .before .decision-of .ensures in
     let k = five .carry .ensures in
     let x = decided-stores (a .setup) (a .channel) (a .slave .now) (a .master .now) (a .tally) in (
       ap (λ (y : Decision). y .stepped) d ∙ decided-step (a .setup) (a .channel) (a .slave .now) (a .master .now) (a .tally),
@@ -27,7 +27,7 @@ pub step-spec : {M : Type 1} → statement M
 step-spec =
     tie.close
     (tie.spec
-    (λ c κs. search needs)  -- decide-requires
+    (λ c κs. search needs)  -- decision-of-requires
     carry-requires
     (λ c. search needs)  -- same-length
     (λ c. search needs)  -- same-length-2

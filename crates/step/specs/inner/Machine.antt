@@ -18,13 +18,13 @@ use Rattle.channel.specs.declared.Asked.{Asked}
 use Rattle.channel.specs.declared.Asked.the-variants.{Never, At}
 use Rattle.channel.specs.declared.Channel.{Channel}
 use Rattle.channel.specs.declared.Request.{Request}
-use Rattle.channel.specs.Channel.{hasRequest, placeIn, withRequest, changed}
-use Rattle.channel.specs.Line.{waits, lineActive, winner}
-use Rattle.act.specs.declared.Path.{Path}
+use Rattle.channel.specs.Channel.{hasRequest, ownerPlace, withRequest, changed}
+use Rattle.channel.specs.Line.{waits, lineActive, winner, askedIf}
+use Rattle.act.specs.declared.Route.{Route}
 use Rattle.act.specs.declared.Hold.the-variants.{After}
 use Rattle.act.specs.declared.Ending.{Ending}
 use Rattle.act.specs.declared.Entry.the-variants.{Idle, Grant, Cycle, Release}
-use Rattle.act.specs.Cycle.{pathOf, cycleBytes, cycleBefore, cycleOf, isLeaving, endingOf, isKept, isMarked}
+use Rattle.act.specs.Cycle.{routeOf, cycleBytes, cycleBefore, cycleOf, isLeaving, endingOf, isKept, isMarked}
 use Rattle.act.specs.Turn.{arbitrationTime}
 use Rattle.tally.specs.declared.Tally.{Tally}
 use Rattle.tally.specs.Tally.{addGrant, addCycle, addRelease}
@@ -36,7 +36,7 @@ use Rattle.step.specs.declared.Plan.the-variants as plan
 use Rattle.step.specs.declared.Decision.{Decision}
 use Rattle.step.specs.declared.Ran.{Ran}
 use Rattle.step.specs.declared.Logged.{Logged}
-use Rattle.step.specs.declared.cycles.After.{After as Left}
+use Rattle.step.specs.declared.cycles.Left.{Left}
 use Rattle.step.specs.declared.acts.Standing.{Standing}
 use Rattle.step.specs.declared.acts.Acted.{Acted}
 use Rattle.step.specs.declared.acts.Decided.{Decided}
@@ -48,12 +48,12 @@ abbrev pub isInside : ℕ → ℕ → Bool
 isInside width address = not (eqb (address % width) 0)
 
 -- whether an owner leaves goes by what its cycle has left
-unfoldable pub leavesAt : Path → Asked → ℕ → Request → Bool
-leavesAt path asked clock rest = isLeaving path asked clock (cycleBefore path rest 0 rest)
+unfoldable pub leavesAt : Route → Asked → ℕ → Request → Bool
+leavesAt route asked clock rest = isLeaving route asked clock (cycleBefore route rest 0 rest)
 
 -- what a cycle leaves, and how it ends
-unfoldable pub afterOf : Path → Asked → ℕ → Request → Left
-afterOf path asked clock q = record { rest = cycleOf path q .rest; ending = endingOf path asked clock (cycleOf path q) }
+unfoldable pub afterCycle : Route → Asked → ℕ → Request → Left
+afterCycle route asked clock q = record { rest = cycleOf route q .rest; ending = endingOf route asked clock (cycleOf route q) }
 
 -- some of the k numbers from i on satisfies f
 unfoldable pub anyFrom : (ℕ → Bool) → ℕ → ℕ → Bool
@@ -128,7 +128,7 @@ grantedBy s w active =
       standing =
           record {
             phase = Granted w;
-            asked = cond active (At (s .clock + arbitrationTime)) Never;
+            asked = askedIf active (s .clock + arbitrationTime);
             clock = s .clock + arbitrationTime;
             tally = addGrant (s .tally);
           };
@@ -154,77 +154,77 @@ standingAfter s clock t ending =
       tally = t;
     }
 
-unfoldable pub cycleActed : Path → Standing → ℕ → Request → Ending → Acted
-cycleActed path s o q ending =
+unfoldable pub cycleActed : Route → Standing → ℕ → Request → Ending → Acted
+cycleActed route s o q ending =
     record {
-      standing = standingAfter s (s .clock + path .time) (addCycle (s .tally) (cycleBytes path q) ending) ending;
+      standing = standingAfter s (s .clock + route .time) (addCycle (s .tally) (cycleBytes route q) ending) ending;
       answer =
           Done
           (Cycle
           (record {
-            clock = s .clock + path .time;
+            clock = s .clock + route .time;
             level = o;
             address = q .address;
-            bytes = cycleBytes path q;
+            bytes = cycleBytes route q;
             direction = q .direction;
-            master = masterLane (path .width) (q .address);
-            slave = slaveLane (path .port) (q .address);
+            «master_lane» = masterLane (route .width) (q .address);
+            «slave_lane» = slaveLane (route .port) (q .address);
             ending = ending;
           }));
     }
 
 -- a step that moves nothing and leaves the owner's slot
-abbrev pub stays : Acted → Request → Decided
-stays a q = record { acted = a; slot = q; carry = noCarry }
+abbrev pub stayOf : Acted → Request → Decided
+stayOf a q = record { acted = a; slot = q; carry = noCarry }
 
 -- one cycle
-abbrev pub endingBy : Path → Standing → Request → Ending
-endingBy path s q = endingOf path (s .asked) (s .clock + path .time) (cycleOf path q)
+abbrev pub endingBy : Route → Standing → Request → Ending
+endingBy route s q = endingOf route (s .asked) (s .clock + route .time) (cycleOf route q)
 
-unfoldable pub cycleDecided : Path → Standing → ℕ → Request → Decided
-cycleDecided path s o q =
-    record { acted = cycleActed path s o q (endingBy path s q); slot = cycleOf path q .rest; carry = carryOf path q }
+unfoldable pub cycleDecided : Route → Standing → ℕ → Request → Decided
+cycleDecided route s o q =
+    record { acted = cycleActed route s o q (endingBy route s q); slot = cycleOf route q .rest; carry = carryOf route q }
 
-unfoldable pub cycleMarks : Path → Standing → ℕ → Request → List Bool → List Bool
-cycleMarks path s o q inactive = set inactive o (isMarked (endingBy path s q))
+unfoldable pub cycleMarks : Route → Standing → ℕ → Request → List Bool → List Bool
+cycleMarks route s o q inactive = set inactive o (isMarked (endingBy route s q))
 
 -- the step, by the phase: what it decides, and the marks after it
-abbrev pub decidedBy : Path → Standing → Request → List ℕ → List Bool → Phase → Decided
-decidedBy path s q left inactive Arbitrating =
-    stays
+abbrev pub decidedBy : Route → Standing → Request → List ℕ → List Bool → Phase → Decided
+decidedBy route s q left inactive Arbitrating =
+    stayOf
     (cond
     (ltb clockLimit (s .clock + arbitrationTime))
     (fullActed s)
     (grantedBy s (winner left inactive) (lineActive left (grantMarks left inactive) (Granted (winner left inactive)))))
     q
-decidedBy path s q left inactive (Granted o) =
+decidedBy route s q left inactive (Granted o) =
     cond
     (eqb (q .left) 0)
-    (stays (restActed (s .asked) s o) q)
-    (cond (ltb clockLimit (s .clock + path .time)) (stays (fullActed s) q) (cycleDecided path s o q))
+    (stayOf (restActed (s .asked) s o) q)
+    (cond (ltb clockLimit (s .clock + route .time)) (stayOf (fullActed s) q) (cycleDecided route s o q))
 
-abbrev pub marksBy : Path → Standing → Request → List ℕ → List Bool → Phase → List Bool
-marksBy path s q left inactive Arbitrating = cond (ltb clockLimit (s .clock + arbitrationTime)) inactive (grantMarks left inactive)
-marksBy path s q left inactive (Granted o) =
-    cond (eqb (q .left) 0) inactive (cond (ltb clockLimit (s .clock + path .time)) inactive (cycleMarks path s o q inactive))
+abbrev pub marksBy : Route → Standing → Request → List ℕ → List Bool → Phase → List Bool
+marksBy route s q left inactive Arbitrating = cond (ltb clockLimit (s .clock + arbitrationTime)) inactive (grantMarks left inactive)
+marksBy route s q left inactive (Granted o) =
+    cond (eqb (q .left) 0) inactive (cond (ltb clockLimit (s .clock + route .time)) inactive (cycleMarks route s o q inactive))
 
-unfoldable pub decidedOf : Path → Standing → Request → List ℕ → List Bool → Decided
-decidedOf path s q left inactive = decidedBy path s q left inactive (s .phase)
+unfoldable pub decidedOf : Route → Standing → Request → List ℕ → List Bool → Decided
+decidedOf route s q left inactive = decidedBy route s q left inactive (s .phase)
 
-unfoldable pub decidedMarks : Path → Standing → Request → List ℕ → List Bool → List Bool
-decidedMarks path s q left inactive = marksBy path s q left inactive (s .phase)
+unfoldable pub decidedMarks : Route → Standing → Request → List ℕ → List Bool → List Bool
+decidedMarks route s q left inactive = marksBy route s q left inactive (s .phase)
 
 -- what it relies on
-pub record Actable (path : Path) (s : Standing) (q : Request) : Type 0 where
+pub record Actable (route : Route) (s : Standing) (q : Request) : Type 0 where
   pub small : (o : ℕ) → s .phase ≡ Granted o → o < places
-  pub way : (o : ℕ) → s .phase ≡ Granted o → eqb (q .left) 0 ≡ false → Way path q
+  pub way : (o : ℕ) → s .phase ≡ Granted o → eqb (q .left) 0 ≡ false → Way route q
 
--- the path of an owner's request; without one there is none
-abbrev pub noPath : Path
-noPath = record { width = 0; options = 0; port = 0; time = 0; base = 0; allowed = 0; start = 0 }
+-- the route of an owner's request; without one there is none
+abbrev pub noRoute : Route
+noRoute = record { width = 0; options = 0; port = 0; time = 0; base = 0; allowed = 0; start = 0 }
 
-abbrev pub pathFor : Setup → ℕ → Request → Path
-pathFor setup o q = cond (eqb (q .left) 0) noPath (pathOf setup o q)
+abbrev pub routeFor : Setup → ℕ → Request → Route
+routeFor setup o q = cond (eqb (q .left) 0) noRoute (routeOf setup o q)
 
 -- what a step does, read off its answer
 abbrev pub planIn : StepAnswer → Plan
@@ -245,14 +245,14 @@ abbrev pub refusedRun : Channel → Tally → Refusal → Ran
 refusedRun ch t why = record { channel = ch; tally = t; steps = 0; verdict = Stopped why }
 
 abbrev pub refusedLog : Channel → Tally → Refusal → ℕ → Logged
-refusedLog ch t why at = record { ran = refusedRun ch t why; past = at }
+refusedLog ch t why at = record { ran = refusedRun ch t why; end = at }
 
 -- the channel after a decided step
 abbrev pub channelBy : Channel → Decided → List Bool → Channel
 channelBy ch d marks =
     withRequest
     (changed ch (d .acted .standing .phase) (d .acted .standing .asked) (d .acted .standing .clock) marks)
-    (placeIn (ch .phase))
+    (ownerPlace (ch .phase))
     (d .slot)
 
 abbrev pub steppedBy : Channel → Decided → List Bool → Stepped

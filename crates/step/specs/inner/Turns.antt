@@ -16,11 +16,11 @@ use Rattle.channel.specs.declared.Phase.the-variants.{Arbitrating, Granted}
 use Rattle.channel.specs.declared.Asked.{Asked}
 use Rattle.channel.specs.declared.Channel.{Channel}
 use Rattle.channel.specs.declared.Request.{Request}
-use Rattle.channel.specs.Channel.{ownerOf, placeIn, requestOf, withRequest}
+use Rattle.channel.specs.Channel.{ownerOf, ownerPlace, requestOf, withRequest}
 use Rattle.channel.specs.Line.{isInactive}
-use Rattle.act.specs.declared.Path.{Path}
+use Rattle.act.specs.declared.Route.{Route}
 use Rattle.act.specs.declared.Ending.the-variants.{Kept}
-use Rattle.act.specs.Cycle.{pathOf, cycleBytes, cycleOf, endingOf, isKept, clocked, endedBy}
+use Rattle.act.specs.Cycle.{routeOf, cycleBytes, cycleOf, endingOf, isKept, clocked, endedBy}
 use Rattle.tally.specs.declared.Tally.{Tally}
 use Rattle.tally.specs.Tally.{addCycle}
 use Rattle.step.specs.declared.StepAnswer.{StepAnswer}
@@ -32,9 +32,9 @@ use Rattle.step.specs.declared.logs.Log.{Log}
 use Rattle.step.specs.declared.turns.State.{State}
 use Rattle.step.specs.declared.turns.Tenure.{Tenure}
 use Rattle.step.specs.Step.{Roomy, Room, carryOf, movedSlave, movedMaster}
-use Rattle.step.specs.Run.{World, Out, world, ended, runFrom}
-use Rattle.step.specs.Log.{Page, page, lined, LoggedOut, closed, logFrom}
-use Rattle.step.specs.inner.Machine.{NoneAsk, NoneWait, noPath, channelOf, channelBy, standingOf, decidedOf, decidedMarks, Actable}
+use Rattle.step.specs.Run.{World, Out, world, stopped, runFrom}
+use Rattle.step.specs.Log.{Page, page, pageAfter, LoggedOut, closed, logFrom}
+use Rattle.step.specs.inner.Machine.{NoneAsk, NoneWait, noRoute, channelOf, channelBy, standingOf, decidedOf, decidedMarks, Actable}
 
 -- all that a run changes: the channel, the tally, the stores, the steps done, and whether the next step would pass the clock's limit
 pub record Running : Type 0 where
@@ -63,44 +63,44 @@ runningOf state inactive direction space address left offset slave master =
     runningBy (state .standing) (state .done) (state .full) inactive direction space address left offset slave master
 
 -- a step as it was decided
-abbrev pub steps : StepAnswer → ℕ → ℕ
-steps (Done entry) done = done + 1
-steps (NotDone why) done = done
+abbrev pub stepsAfter : StepAnswer → ℕ → ℕ
+stepsAfter (Done entry) done = done + 1
+stepsAfter (NotDone why) done = done
 
 abbrev pub stops : StepAnswer → Bool
 stops (Done entry) = false
 stops (NotDone why) = true
 
-abbrev pub runBy : Running → Decided → List Bool → Running
-runBy w d marks =
+abbrev pub runningAfter : Running → Decided → List Bool → Running
+runningAfter w d marks =
     record {
       channel = channelBy (w .channel) d marks;
       tally = d .acted .standing .tally;
-      done = steps (d .acted .answer) (w .done);
+      done = stepsAfter (d .acted .answer) (w .done);
       full = stops (d .acted .answer);
       slave = movedSlave (d .carry) (w .slave) (w .master);
       master = movedMaster (d .carry) (w .slave) (w .master);
     }
 
-abbrev pub decidedIn : Path → Channel → Tally → Decided
-decidedIn path ch t = decidedOf path (standingOf ch t) (requestOf ch (placeIn (ch .phase))) (ch .left) (ch .inactive)
+abbrev pub decidedIn : Route → Channel → Tally → Decided
+decidedIn route ch t = decidedOf route (standingOf ch t) (requestOf ch (ownerPlace (ch .phase))) (ch .left) (ch .inactive)
 
-abbrev pub marksIn : Path → Channel → Tally → List Bool
-marksIn path ch t = decidedMarks path (standingOf ch t) (requestOf ch (placeIn (ch .phase))) (ch .left) (ch .inactive)
+abbrev pub marksIn : Route → Channel → Tally → List Bool
+marksIn route ch t = decidedMarks route (standingOf ch t) (requestOf ch (ownerPlace (ch .phase))) (ch .left) (ch .inactive)
 
-unfoldable pub stepRun : Path → Running → Running
-stepRun path w = runBy w (decidedIn path (w .channel) (w .tally)) (marksIn path (w .channel) (w .tally))
+unfoldable pub stepRun : Route → Running → Running
+stepRun route w = runningAfter w (decidedIn route (w .channel) (w .tally)) (marksIn route (w .channel) (w .tally))
 
 -- one cycle more of an owner
-unfoldable pub cycled : Path → Asked → Tenure → Tenure
-cycled path asked t =
+unfoldable pub cycleOn : Route → Asked → Tenure → Tenure
+cycleOn route asked t =
     record {
-      clock = t .clock + path .time;
-      request = cycleOf path (t .request) .rest;
+      clock = t .clock + route .time;
+      request = cycleOf route (t .request) .rest;
       tally =
-          addCycle (t .tally) (cycleBytes path (t .request)) (endingOf path asked (t .clock + path .time) (cycleOf path (t .request)));
+          addCycle (t .tally) (cycleBytes route (t .request)) (endingOf route asked (t .clock + route .time) (cycleOf route (t .request)));
       done = t .done + 1;
-      ending = endingOf path asked (t .clock + path .time) (cycleOf path (t .request));
+      ending = endingOf route asked (t .clock + route .time) (cycleOf route (t .request));
       full = false;
     }
 
@@ -117,18 +117,18 @@ abbrev pub heldOf : Tenure → List ℕ → List ℕ → Held
 heldOf t slave master = record { tenure = t; slave = slave; master = master }
 
 -- at most k of them: until the owner releases the channel, the next one would pass the clock's limit, or k are done
-unfoldable pub held : Path → Asked → ℕ → Tenure → List ℕ → List ℕ → Held
-held path asked zero t slave master = heldOf t slave master
-held path asked (suc k) t slave master =
+unfoldable pub held : Route → Asked → ℕ → Tenure → List ℕ → List ℕ → Held
+held route asked zero t slave master = heldOf t slave master
+held route asked (suc k) t slave master =
     cond
-    (ltb clockLimit (t .clock + path .time))
+    (ltb clockLimit (t .clock + route .time))
     (heldOf (filled t) slave master)
     (cond
-    (isKept (cycled path asked t .ending))
-    (held path asked k (cycled path asked t) (movedSlave (carryOf path (t .request)) slave master)
-    (movedMaster (carryOf path (t .request)) slave master))
-    (heldOf (cycled path asked t) (movedSlave (carryOf path (t .request)) slave master)
-    (movedMaster (carryOf path (t .request)) slave master)))
+    (isKept (cycleOn route asked t .ending))
+    (held route asked k (cycleOn route asked t) (movedSlave (carryOf route (t .request)) slave master)
+    (movedMaster (carryOf route (t .request)) slave master))
+    (heldOf (cycleOn route asked t) (movedSlave (carryOf route (t .request)) slave master)
+    (movedMaster (carryOf route (t .request)) slave master)))
 
 -- the owner's request at the start of its cycles, and what it all comes to at their end
 abbrev pub tenureOf : Running → ℕ → Tenure
@@ -156,24 +156,24 @@ afterHeld ch o h =
       master = h .master;
     }
 
-abbrev pub cyclesRun : Path → ℕ → ℕ → Running → Running
-cyclesRun path budget o w =
-    afterHeld (w .channel) o (held path (w .channel .asked) (budget - w .done) (tenureOf w o) (w .slave) (w .master))
+abbrev pub cyclesRun : Route → ℕ → ℕ → Running → Running
+cyclesRun route budget o w =
+    afterHeld (w .channel) o (held route (w .channel .asked) (budget - w .done) (tenureOf w o) (w .slave) (w .master))
 
 -- one step more
-abbrev pub onward : Acted → ℕ → ℕ → State
-onward a done low = record { standing = a .standing; done = done + 1; full = false; low = low }
+abbrev pub steppedOn : Acted → ℕ → ℕ → State
+steppedOn a done low = record { standing = a .standing; done = done + 1; full = false; low = low }
 
 -- one turn
-abbrev pub turnBy : Path → ℕ → Running → Phase → Running
-turnBy path budget w Arbitrating = stepRun path w
-turnBy path budget w (Granted o) = cond (eqb (getD (w .channel .left) o 0) 0) (stepRun path w) (cyclesRun path budget o w)
+abbrev pub turnBy : Route → ℕ → Running → Phase → Running
+turnBy route budget w Arbitrating = stepRun route w
+turnBy route budget w (Granted o) = cond (eqb (getD (w .channel .left) o 0) 0) (stepRun route w) (cyclesRun route budget o w)
 
-unfoldable pub turnOf : Path → ℕ → Running → Running
-turnOf path budget w = turnBy path budget w (w .channel .phase)
+unfoldable pub turnOf : Route → ℕ → Running → Running
+turnOf route budget w = turnBy route budget w (w .channel .phase)
 
-abbrev pub verdictIf : Bool → Verdict
-verdictIf full = cond full (Refused (refusalBy 6)) Accepted
+abbrev pub verdictOf : Bool → Verdict
+verdictOf full = cond full (Refused (refusalBy 6)) Accepted
 
 -- what is still to come of a run
 abbrev pub worldOf : Running → World
@@ -181,11 +181,11 @@ worldOf w = world (w .channel) (w .tally) (w .slave) (w .master)
 
 unfoldable pub toCome : Setup → ℕ → Running → Out
 toCome setup budget w =
-    cond (w .full) (ended (Refused (refusalBy 6)) (w .done) (worldOf w)) (runFrom setup (budget - w .done) (w .done) (worldOf w))
+    cond (w .full) (stopped (Refused (refusalBy 6)) (w .done) (worldOf w)) (runFrom setup (budget - w .done) (w .done) (worldOf w))
 
--- the paths of the open requests of the levels below n
-abbrev pub ArePaths : Setup → (ℕ → Request) → List Path → ℕ → Type 0
-ArePaths setup request paths n = (l : ℕ) → l < n → eqb (request l .left) 0 ≡ false → getD paths l noPath ≡ pathOf setup l (request l)
+-- the routes of the open requests of the levels below n
+abbrev pub AreRoutes : Setup → (ℕ → Request) → List Route → ℕ → Type 0
+AreRoutes setup request routes n = (l : ℕ) → l < n → eqb (request l .left) 0 ≡ false → getD routes l noRoute ≡ routeOf setup l (request l)
 
 -- the levels below `base` have no request, those below `low` don't wait, and the owner is none of them
 pub record Lows (base low : ℕ) (ch : Channel) : Type 0 where
@@ -196,20 +196,20 @@ pub record Lows (base low : ℕ) (ch : Channel) : Type 0 where
   pub owner : low ≤ ownerOf (ch .phase)
 
 -- what an owner's turn relies on
-pub record Owned (path : Path) (w : Running) (o : ℕ) : Type 0 where
+pub record Owned (route : Route) (w : Running) (o : ℕ) : Type 0 where
   pub small : o < places
   pub active : isInactive (w .channel .inactive) o ≡ false
   pub roomy : eqb (getD (w .channel .left) o 0) 0 ≡ false
-      → Roomy path (requestOf (w .channel) o) (length (w .slave)) (length (w .master))
+      → Roomy route (requestOf (w .channel) o) (length (w .slave)) (length (w .master))
 
 -- what a turn relies on
-pub record Turnable (path : Path) (base low budget : ℕ) (w : Running) : Type 0 where
+pub record Turnable (route : Route) (base low budget : ℕ) (w : Running) : Type 0 where
   pub clock : w .channel .clock ≤ clockLimit
   pub budgeted : budget ≤ stepsMost
   pub more : w .done < budget
   pub going : w .full ≡ false
   pub lows : Lows base low (w .channel)
-  pub owned : (o : ℕ) → w .channel .phase ≡ Granted o → Owned path w o
+  pub owned : (o : ℕ) → w .channel .phase ≡ Granted o → Owned route w o
 
 -- a logged run: the run, and the page
 pub record Logging : Type 0 where
@@ -226,15 +226,15 @@ loggingOf log inactive direction space address left offset slave master out =
     }
 
 -- one step of it, and its line
-abbrev pub lineBy : StepAnswer → Page → Page
-lineBy (Done entry) p = lined p entry
-lineBy (NotDone why) p = p
+abbrev pub pageBy : StepAnswer → Page → Page
+pageBy (Done entry) p = pageAfter p entry
+pageBy (NotDone why) p = p
 
-unfoldable pub logStep : Path → Logging → Logging
-logStep path g =
+unfoldable pub logStep : Route → Logging → Logging
+logStep route g =
     record {
-      running = stepRun path (g .running);
-      page = lineBy (decidedIn path (g .running .channel) (g .running .tally) .acted .answer) (g .page);
+      running = stepRun route (g .running);
+      page = pageBy (decidedIn route (g .running .channel) (g .running .tally) .acted .answer) (g .page);
     }
 
 -- what is still to come of it
@@ -246,8 +246,8 @@ logToCome setup budget g =
     (logFrom setup (budget - g .running .done) (g .running .done) (worldOf (g .running)) (g .page))
 
 -- what a logged step relies on
-pub record Loggable (path : Path) (w : Running) : Type 0 where
-  pub acts : Actable path (standingOf (w .channel) (w .tally)) (requestOf (w .channel) (placeIn (w .channel .phase)))
-  pub room : Room (decidedIn path (w .channel) (w .tally) .carry) (length (w .slave)) (length (w .master))
-  pub place : placeIn (w .channel .phase) < places
+pub record Loggable (route : Route) (w : Running) : Type 0 where
+  pub acts : Actable route (standingOf (w .channel) (w .tally)) (requestOf (w .channel) (ownerPlace (w .channel .phase)))
+  pub room : Room (decidedIn route (w .channel) (w .tally) .carry) (length (w .slave)) (length (w .master))
+  pub place : ownerPlace (w .channel .phase) < places
   pub more : w .done < stepsMost

@@ -15,13 +15,13 @@ returns c =
     (sym (c .before .before .before .before .arbitration-time .ensures)) ∙ sym (c .before .before .before .is-full .ensures)
     ∙ c .before .before .if1 .taken) in
     decides-full _ (a .standing) _ (a .left .now) (a .inactive .now) (c .before .before .before .before .before .enum-told .given .1) _
-    full (c .stay .ensures ∙ rw (c .before .full .ensures))
+    full (c .stay .ensures ∙ rw (c .before .full-acted .ensures))
 
 choose-requires : tie.Need-choose-requires
 choose-requires c κs = from-first _ _
 
-granted-requires : tie.Need-granted-requires
-granted-requires c κs = ltb-false clockLimit _ (ap (λ (x : ℕ). ltb clockLimit
+granted-by-requires : tie.Need-granted-by-requires
+granted-by-requires c κs = ltb-false clockLimit _ (ap (λ (x : ℕ). ltb clockLimit
     (c .before .before .before .before .before .before .before .args .standing .clock + x))
     (sym (c .before .before .before .before .arbitration-time .ensures)) ∙ sym (c .before .before .before .is-full .ensures)
     ∙ c .before .before .if1 .left)
@@ -31,7 +31,7 @@ returns-2 c =
     let a = c .before .before .before .before .before .before .before .args in
     decides-rest _ (a .standing) (a .request) (a .left .now) (a .inactive .now) _
     (c .before .before .before .before .before .phase .given .1) _ (eq-eqb _ 0 (c .before .before .if2 .taken))
-    (c .stay3 .ensures ∙ rw (c .before .rest .ensures))
+    (c .stay3 .ensures ∙ rw (c .before .rest-acted .ensures))
 
 returns-3 : tie.Need-returns-3
 returns-3 c =
@@ -40,10 +40,10 @@ returns-3 c =
     (c .before .before .before .before .before .before .before .phase .given .1)
     (ne-eqb _ 0 (c .before .before .before .before .if2 .left)) _
     (sym (c .before .before .before .is-full2 .ensures) ∙ c .before .before .if3 .taken)
-    (c .stay4 .ensures ∙ rw (c .before .full2 .ensures))
+    (c .stay4 .ensures ∙ rw (c .before .full-acted2 .ensures))
 
-decide-cycle-requires : tie.Need-decide-cycle-requires
-decide-cycle-requires c κs =
+cycle-decided-requires : tie.Need-cycle-decided-requires
+cycle-decided-requires c κs =
     let p = c .before .before .before .before .before .before .phase .given .1 in
     let pre = c .before .before .before .before .before .before .before .before .pre in (
       pre .small _ p,
@@ -63,7 +63,7 @@ returns-4 c =
     (sym (c .before .before .before .before .before .before .arbitration-time .ensures))
     ∙ sym (c .before .before .before .before .before .is-full .ensures) ∙ c .before .before .before .before .if1 .left)
     (c .before .before .choose .ensures)
-    (c .stay2 .ensures ∙ rw (c .before .granted .ensures))
+    (c .stay2 .ensures ∙ rw (c .before .granted-by .ensures))
 
 returns-5 : tie.Need-returns-5
 returns-5 c =
@@ -71,8 +71,8 @@ returns-5 c =
     decides-cycle _ (a .standing) (a .request) (a .left .now) (a .inactive .now) _
     (c .before .before .before .before .before .before .before .phase .given .1)
     (ne-eqb _ 0 (c .before .before .before .before .if2 .left)) _ _
-    (sym (c .before .before .before .is-full2 .ensures) ∙ c .before .before .if3 .left) (c .decide-cycle .ensures .0)
-    (c .decide-cycle .ensures .1)
+    (sym (c .before .before .before .is-full2 .ensures) ∙ c .before .before .if3 .left) (c .cycle-decided .ensures .0)
+    (c .cycle-decided .ensures .1)
 
 pub act-on-spec : {M : Type 1} → statement M
 act-on-spec =
@@ -81,20 +81,20 @@ act-on-spec =
     (λ c. search needs)  -- enum-told
     (λ c κs. search needs)  -- arbitration-time-requires
     (λ c κs. search needs)  -- is-full-requires
-    (λ c κs. search needs)  -- full-requires
+    (λ c κs. search needs)  -- full-acted-requires
     (λ c κs. search needs)  -- stay-requires
     returns
     choose-requires
-    granted-requires
+    granted-by-requires
     (λ c κs. search needs)  -- stay-requires-2
     (λ c. search needs)  -- enum-known-phase
-    (λ c κs. search needs)  -- rest-requires
+    (λ c κs. search needs)  -- rest-acted-requires
     (λ c κs. search needs)  -- stay-requires-3
     returns-2
     (λ c κs. search needs)  -- is-full-requires-2
-    (λ c κs. search needs)  -- full-requires-2
+    (λ c κs. search needs)  -- full-acted-requires-2
     (λ c κs. search needs)  -- stay-requires-4
     returns-3
-    decide-cycle-requires
+    cycle-decided-requires
     returns-4
     returns-5)

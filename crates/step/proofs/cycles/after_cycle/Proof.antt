@@ -9,18 +9,18 @@ returns c =
     let four = c .before .before .before .before in
     rw (c .before .no-request .ensures, c .released-by .ensures) (after-done _ _ _ _ _ (four .pre .1) (c .before .before .if1 .taken))
 
-rest-of-requires : tie.Need-rest-of-requires
-rest-of-requires c κs = search needs
+rest-after-requires : tie.Need-rest-after-requires
+rest-after-requires c κs = search needs
 
-is-leaving-requires : tie.Need-is-leaving-requires
-is-leaving-requires c κs =
+leaves-at-requires : tie.Need-leaves-at-requires
+leaves-at-requires c κs =
     let three = c .before .before .before in
     let w = three .pre .0 in
     let a = three .args in (
       w .width,
       (
         w .port,
-        some-left (a .path) (a .asked) (a .clock) (a .request) (a .bytes) (three .pre .1) _ (c .rest-of .ensures)
+        some-left (a .route) (a .asked) (a .clock) (a .request) (a .bytes) (three .pre .1) _ (c .rest-after .ensures)
             (c .before .if1 .left),
       ),
     )
@@ -29,13 +29,13 @@ returns-2 : tie.Need-returns-2
 returns-2 c =
     let six = c .before .before .before .before .before .before in
     rw (c .released-by2 .ensures)
-    (after-leaving _ _ _ _ _ (six .pre .1) _ (c .before .before .before .rest-of .ensures)
-    (sym (c .before .before .is-leaving .ensures) ∙ c .before .if2 .taken))
+    (after-leaving _ _ _ _ _ (six .pre .1) _ (c .before .before .before .rest-after .ensures)
+    (sym (c .before .before .leaves-at .ensures) ∙ c .before .if2 .taken))
 
 returns-3 : tie.Need-returns-3
 returns-3 c =
     let five = c .before .before .before .before .before in
-    after-staying _ _ _ _ _ (five .pre .1) _ (c .before .before .rest-of .ensures) (sym (c .before .is-leaving .ensures) ∙ c .if2 .left)
+    after-staying _ _ _ _ _ (five .pre .1) _ (c .before .before .rest-after .ensures) (sym (c .before .leaves-at .ensures) ∙ c .if2 .left)
 
 pub after-cycle-spec : {M : Type 1} → statement M
 after-cycle-spec =
@@ -44,8 +44,8 @@ after-cycle-spec =
     (λ c κs. search needs)  -- no-request-requires
     (λ c κs. search needs)  -- released-by-requires
     returns
-    rest-of-requires
-    is-leaving-requires
+    rest-after-requires
+    leaves-at-requires
     (λ c κs. search needs)  -- released-by-requires-2
     returns-2
     returns-3)

@@ -11,7 +11,7 @@ use Rattle.step.proofs.cycles.next_time.Tie as tie
 returns : tie.Need-returns
 returns c =
     let p = c .before .before .before .before .pre in
-    time-four _ _ (p .0) (p .1 .0) (p .1 .1 .0) (p .1 .1 .1) (sym (c .before .before .narrow .ensures) ∙ c .before .if1 .taken)
+    time-four _ _ (p .0) (p .1 .0) (p .1 .1 .0) (p .1 .1 .1) (sym (c .before .before .narrower-of .ensures) ∙ c .before .if1 .taken)
 
 add-result : tie.Need-add-result
 add-result c =
@@ -24,7 +24,7 @@ mul-result c = record { fits = product-below 32 (search needs) (search needs) }
 returns-2 : tie.Need-returns-2
 returns-2 c =
     let p = c .before .before .before .before .before .pre in
-    time-two _ _ (p .0) (p .1 .0) (p .1 .1 .0) (p .1 .1 .1) (sym (c .before .before .before .narrow .ensures) ∙ c .before .if2 .taken)
+    time-two _ _ (p .0) (p .1 .0) (p .1 .1 .0) (p .1 .1 .1) (sym (c .before .before .before .narrower-of .ensures) ∙ c .before .if2 .taken)
     (c .before .before .before .before .smaller .ensures)
 
 mul-result-2 : tie.Need-mul-result-2
@@ -34,7 +34,7 @@ returns-3 : tie.Need-returns-3
 returns-3 c =
     let p = c .before .before .before .before .before .pre in
     time-one _ _ (p .0) (p .1 .0) (p .1 .1 .0) (p .1 .1 .1)
-    (sym (c .before .before .before .narrow .ensures) ∙ one-left _ _ (p .0) (p .1 .0) (c .before .before .before .narrow .ensures)
+    (sym (c .before .before .before .narrower-of .ensures) ∙ one-left _ _ (p .0) (p .1 .0) (c .before .before .before .narrower-of .ensures)
     (c .before .before .if1 .left)
     (c .before .if2 .left))
     (c .before .before .before .before .smaller .ensures)
@@ -44,7 +44,7 @@ next-time-spec =
     tie.close
     (tie.spec
     (λ c κs. search needs)  -- smaller-requires
-    (λ c κs. search needs)  -- narrow-requires
+    (λ c κs. search needs)  -- narrower-of-requires
     (λ c. search needs)  -- cast-result
     returns
     add-result

@@ -48,7 +48,7 @@ returns c =
     let slots = ten .before .before .put-slot .ensures in
     let k = five .before .before .before .carry .ensures in
     rw (slots .0, slots .1 .0, slots .1 .1 .0, slots .1 .1 .1 .0, slots .1 .1 .1 .1)
-    (log-full (a .path) (a .log) (a .inactive .now) (a .direction .now) (a .space .now) (a .address .now) (a .left .now)
+    (log-full (a .route) (a .log) (a .inactive .now) (a .direction .now) (a .space .now) (a .address .now) (a .left .now)
     (a .offset .now) (a .slave .now) (a .master .now) (a .out .now) _ (p .0) _ (twenty .before .before .slot-at .ensures)
     _ _ (d .0) (d .1) _ _ (k .0, k .1) _ (c .enum-told .given .1))
 
@@ -78,7 +78,7 @@ returns-2 c =
     let slots = fifteen .before .before .before .put-slot .ensures in
     let k = ten .before .before .before .before .carry .ensures in
     rw (slots .0, slots .1 .0, slots .1 .1 .0, slots .1 .1 .1 .0, slots .1 .1 .1 .1)
-    (log-done (a .path) (a .log) (a .inactive .now) (a .direction .now) (a .space .now) (a .address .now) (a .left .now)
+    (log-done (a .route) (a .log) (a .inactive .now) (a .direction .now) (a .space .now) (a .address .now) (a .left .now)
     (a .offset .now) (a .slave .now) (a .master .now) (a .out .now) _ (p .0) _ (twenty-five .before .before .before .slot-at .ensures)
     _ _ (d .0) (d .1) _ _ (k .0, k .1) _ _ _ (five .before .answer .given .1) (c .before .before .before .put-entry .ensures .0) (c .before .before .before .put-entry .ensures .1))
 

@@ -10,26 +10,26 @@ use Rattle.step.proofs.logs.log_steps.Statement.{statement}
 use Rattle.step.proofs.logs.log_steps.Tie as tie
 
 abbrev Inv-loop : tie.InvT-loop
-Inv-loop slave₀ master₀ out₀ at budget inactive₀ direction₀ space₀ address₀ left₀ offset₀ paths log₀ slave master out inactive direction
+Inv-loop slave₀ master₀ out₀ at budget inactive₀ direction₀ space₀ address₀ left₀ offset₀ routes log₀ slave master out inactive direction
     space address left offset log =
     (length slave ≡ length slave₀)
     × (length master ≡ length master₀)
     × (length out ≡ length out₀)
     × ((setup : Setup)
-    → Going setup paths (loggingOf log₀ inactive₀ direction₀ space₀ address₀ left₀ offset₀ slave₀ master₀ out₀ .running)
-    → Logs setup budget paths (loggingOf log₀ inactive₀ direction₀ space₀ address₀ left₀ offset₀ slave₀ master₀ out₀)
+    → Going setup routes (loggingOf log₀ inactive₀ direction₀ space₀ address₀ left₀ offset₀ slave₀ master₀ out₀ .running)
+    → Logs setup budget routes (loggingOf log₀ inactive₀ direction₀ space₀ address₀ left₀ offset₀ slave₀ master₀ out₀)
     (loggingOf log inactive direction space address left offset slave master out))
 
 abbrev μ-loop : tie.MeasureT-loop
-μ-loop slave₀ master₀ out₀ at budget inactive₀ direction₀ space₀ address₀ left₀ offset₀ paths log₀ slave master out inactive direction
+μ-loop slave₀ master₀ out₀ at budget inactive₀ direction₀ space₀ address₀ left₀ offset₀ routes log₀ slave master out inactive direction
     space address left offset log =
     nearness budget (log .full) (log .done)
 
 loop-holds : tie.Need-loop-holds Inv-loop μ-loop
 loop-holds c = (refl, refl, refl, λ setup g. logs-first setup _ _ _ refl g)
 
-mul-path : tie.Need-mul-path Inv-loop μ-loop
-mul-path c =
+mul-route : tie.Need-mul-route Inv-loop μ-loop
+mul-route c =
     let five = c .before .before .before .before .before in
     let ten = five .before .before .before .before .before in
     let fifteen = ten .before .before .before .before .before in
@@ -37,11 +37,11 @@ mul-path c =
     let s = twenty .before .before in
     let l = five .before .loop in
     let logs = l .inv .3 (s .args .setup)
-    (record { ready = s .pre .0; shaped = s .pre .1 .0; routed = five .before .before .paths-of .ensures }) in
-    omega (arith, place-below _ _ _ (logs .going), c .place-at .ensures)
+    (record { ready = s .pre .0; shaped = s .pre .1 .0; routed = five .before .before .routes-of .ensures }) in
+    omega (arith, place-below _ _ _ (logs .going), c .owner-place .ensures)
 
-array-copy-out-path : tie.Need-array-copy-out-path Inv-loop μ-loop
-array-copy-out-path c =
+array-copy-out-route : tie.Need-array-copy-out-route Inv-loop μ-loop
+array-copy-out-route c =
     let five = c .before .before .before .before .before in
     let ten = five .before .before .before .before .before in
     let fifteen = ten .before .before .before .before .before in
@@ -49,8 +49,8 @@ array-copy-out-path c =
     let s = twenty .before .before in
     let l = five .before .loop in
     let logs = l .inv .3 (s .args .setup)
-    (record { ready = s .pre .0; shaped = s .pre .1 .0; routed = five .before .before .paths-of .ensures }) in
-    rw (c .place-at .ensures) (place-below _ _ _ (logs .going))
+    (record { ready = s .pre .0; shaped = s .pre .1 .0; routed = five .before .before .routes-of .ensures }) in
+    rw (c .owner-place .ensures) (place-below _ _ _ (logs .going))
 
 log-step-requires : tie.Need-log-step-requires Inv-loop μ-loop
 log-step-requires c κs =
@@ -63,9 +63,9 @@ log-step-requires c κs =
     let s = thirty .before .before in
     let l = fifteen .before .loop in
     let logs = l .inv .3 (s .args .setup)
-    (record { ready = s .pre .0; shaped = s .pre .1 .0; routed = fifteen .before .before .paths-of .ensures }) in
+    (record { ready = s .pre .0; shaped = s .pre .1 .0; routed = fifteen .before .before .routes-of .ensures }) in
     let more = goes (l .log .done) (s .args .budget) (l .log .full) _ (ten .before .before .if1 .taken) in
-    let here = ten .place-at .ensures in
+    let here = ten .owner-place .ensures in
     (here, rw here (loggable _ _ _ (logs .going) (omega (arith, more .0, s .pre .1 .1))))
 
 loop-less : tie.Need-loop-less Inv-loop μ-loop
@@ -80,10 +80,11 @@ loop-less c =
     let s = thirty-five .before .before .before .before in
     let l = twenty .before .before .before .loop in
     let logs = l .inv .3 (s .args .setup)
-    (record { ready = s .pre .0; shaped = s .pre .1 .0; routed = twenty .before .before .before .before .paths-of .ensures }) in
+    (record { ready = s .pre .0; shaped = s .pre .1 .0; routed = twenty .before .before .before .before .routes-of .ensures }) in
     let more = goes (l .log .done) (s .args .budget) (l .log .full) _ (fifteen .before .before .before .before .if1 .taken) in
     nearer _ _ _ _ _ (more .1) (more .0)
-    (logs-more _ _ _ _ _ logs (more .0) (more .1) (sym (twenty .has-room .ensures) ∙ more .2) _ (fifteen .before .before .place-at .ensures) _ (five .before .log-step .ensures))
+    (logs-more _ _ _ _ _ logs (more .0) (more .1) (sym (twenty .has-room .ensures) ∙ more .2) _
+    (fifteen .before .before .owner-place .ensures) _ (five .before .log-step .ensures))
 
 loop-again : tie.Need-loop-again Inv-loop μ-loop
 loop-again c =
@@ -103,7 +104,7 @@ loop-again c =
       n .1 .1 .0 ∙ l .inv .2,
       λ setup first.
           logs-on setup _ _ _ _ (l .inv .3 setup first) (more .0) (more .1) (sym (twenty .has-room .ensures) ∙ more .2) _
-          (fifteen .before .before .place-at .ensures) _ (five .before .log-step .ensures),
+          (fifteen .before .before .owner-place .ensures) _ (five .before .log-step .ensures),
     )
 
 same-length : tie.Need-same-length Inv-loop μ-loop
@@ -124,7 +125,7 @@ returns c =
     let s = twenty .before .before .before .before in
     let l = five .before .before .before .loop in
     let logs = l .inv .3 (s .args .setup)
-    (record { ready = s .pre .0; shaped = s .pre .1 .0; routed = five .before .before .before .before .paths-of .ensures }) in
+    (record { ready = s .pre .0; shaped = s .pre .1 .0; routed = five .before .before .before .before .routes-of .ensures }) in
     let e = sym (log-finished _ _ _ _ (five .has-room .ensures) (c .before .before .before .before .if1 .left) (logs .least)) ∙ logs .same
     ∙ log-first _ _ _ refl refl in (
       rw (c .channel-of .ensures, c .before .verdict-of .ensures) (ap (λ (x : LoggedOut). x .result) e),
@@ -140,12 +141,12 @@ log-steps-spec =
     (tie.spec
     Inv-loop
     μ-loop
-    (λ c κs. tt)  -- paths-of-requires
+    (λ c κs. tt)  -- routes-of-requires
     loop-holds
     (λ c κs. tt)  -- has-room-requires
-    (λ c κs. tt)  -- place-at-requires
-    mul-path
-    array-copy-out-path
+    (λ c κs. tt)  -- owner-place-requires
+    mul-route
+    array-copy-out-route
     log-step-requires
     loop-less
     loop-again

@@ -1,5 +1,5 @@
-use Rattle.step.specs.inner.Machine.{afterOf}
-use Rattle.step.specs.inner.Turns.{cycled}
+use Rattle.step.specs.inner.Machine.{afterCycle}
+use Rattle.step.specs.inner.Turns.{cycleOn}
 use borrow.Author.Needs.{needs}
 use Rattle.step.proofs.turns.cycle_on.Statement.{statement}
 use Rattle.step.proofs.turns.cycle_on.Tie as tie
@@ -8,7 +8,7 @@ after-cycle-requires : tie.Need-after-cycle-requires
 after-cycle-requires c κs = search needs
 
 returns : tie.Need-returns
-unfolding cycled afterOf
+unfolding cycleOn afterCycle
 returns c = let after = c .before .before .before .after-cycle .ensures in rw
     (c .before .add-cycle .ensures, after, c .before .before .before .before .before .before .pre .1 .0)
 

@@ -14,15 +14,15 @@ use Rattle.step.proofs.turns.hold_channel.Statement.{statement}
 use Rattle.step.proofs.turns.hold_channel.Tie as tie
 
 abbrev Inv-loop : tie.InvT-loop
-Inv-loop path asked slave₀ master₀ budget now₀ slave master now =
-    Roomy path (now .request) (length slave) (length master)
-    × (now .clock ≤ clockLimit)
-    × (held path asked (budget - now .done) now slave master ≡ held path asked (budget - now₀ .done) now₀ slave₀ master₀)
+Inv-loop route asked slave₀ master₀ budget tenure₀ slave master tenure =
+    Roomy route (tenure .request) (length slave) (length master)
+    × (tenure .clock ≤ clockLimit)
+    × (held route asked (budget - tenure .done) tenure slave master ≡ held route asked (budget - tenure₀ .done) tenure₀ slave₀ master₀)
     × (length slave ≡ length slave₀)
     × (length master ≡ length master₀)
 
 abbrev μ-loop : tie.MeasureT-loop
-μ-loop path asked slave₀ master₀ budget now₀ slave master now = budget - now .done
+μ-loop route asked slave₀ master₀ budget tenure₀ slave master tenure = budget - tenure .done
 
 loop-holds : tie.Need-loop-holds Inv-loop μ-loop
 loop-holds c = (c .before .before .pre .0, c .before .before .pre .1 .0, refl, refl, refl)
@@ -42,20 +42,20 @@ returns c =
     let five = c .before .before .before .before .before in
     let l = five .loop in
     let full = ltb-true clockLimit _ (sym (c .before .before .is-full .ensures) ∙ c .before .if2 .taken) in
-    let e = sym (held-full _ _ _ (l .now) (l .slave) (l .master) (c .before .before .before .if1 .taken) full) ∙ l .inv .2 in
+    let e = sym (held-full _ _ _ (l .tenure) (l .slave) (l .master) (c .before .before .before .if1 .taken) full) ∙ l .inv .2 in
     (c .fill .ensures ∙ ap (λ (x : Held). x .tenure) e, (ap (λ (x : Held). x .slave) e, ap (λ (x : Held). x .master) e))
 
-bytes-of-requires : tie.Need-bytes-of-requires Inv-loop μ-loop
-bytes-of-requires c κs = c .before .before .before .before .before .loop .inv .0 .way
+cycle-bytes-requires : tie.Need-cycle-bytes-requires Inv-loop μ-loop
+cycle-bytes-requires c κs = c .before .before .before .before .before .loop .inv .0 .way
 
 carry-of-requires : tie.Need-carry-of-requires Inv-loop μ-loop
-carry-of-requires c κs = (c .before .before .before .before .before .before .loop .inv .0 .way, c .bytes-of .ensures)
+carry-of-requires c κs = (c .before .before .before .before .before .before .loop .inv .0 .way, c .cycle-bytes .ensures)
 
 carry-requires : tie.Need-carry-requires Inv-loop μ-loop
 carry-requires c κs =
     let five = c .before .before .before .before .before in
     let r = five .before .before .before .before .loop .inv .0 in
-    rw (c .before .before .carry-of .ensures) (carry-room _ (five .before .before .before .before .loop .now .request) _ _ r)
+    rw (c .before .before .carry-of .ensures) (carry-room _ (five .before .before .before .before .loop .tenure .request) _ _ r)
 
 cycle-on-requires : tie.Need-cycle-on-requires Inv-loop μ-loop
 cycle-on-requires c κs =
@@ -65,7 +65,7 @@ cycle-on-requires c κs =
     let room = ltb-false clockLimit _ (sym (ten .before .is-full .ensures) ∙ ten .if2 .left) in (
       ten .before .before .before .before .loop .inv .0 .way,
       (
-        five .before .before .before .bytes-of .ensures,
+        five .before .before .before .cycle-bytes .ensures,
         (room, omega (arith, ten .before .before .if1 .taken, fifteen .before .before .pre .1 .1)),
       ),
     )
@@ -97,7 +97,7 @@ returns-2 c =
     ∙ ten .before .before .before .if2 .left) in
     let f = sym (ap (λ (x : Tenure). isKept (x .ending)) t) ∙ sym (c .before .is-kept .ensures)
     ∙ not-true (c .before .is-kept .result) (c .if3 .taken) in
-    let e = sym (held-ends _ _ _ (l .now) (l .slave) (l .master) (fifteen .if1 .taken) room f) ∙ l .inv .2 in (
+    let e = sym (held-ends _ _ _ (l .tenure) (l .slave) (l .master) (fifteen .if1 .taken) room f) ∙ l .inv .2 in (
       t ∙ ap (λ (x : Held). x .tenure) e,
       (rw what at (k .0) ∙ ap (λ (x : Held). x .slave) e, rw what at (k .1) ∙ ap (λ (x : Held). x .master) e),
     )
@@ -121,18 +121,18 @@ loop-again c =
     let k = five .before .before .carry in
     let t = c .before .before .cycle-on .ensures in
     let a = twenty .args in
-    let facts = cycled-facts (a .path) (a .asked) (l .now) in
-    let room = ltb-false clockLimit (l .now .clock + a .path .time) (sym (ten .before .before .before .before .is-full .ensures)
+    let facts = cycled-facts (a .route) (a .asked) (l .tenure) in
+    let room = ltb-false clockLimit (l .tenure .clock + a .route .time) (sym (ten .before .before .before .before .is-full .ensures)
     ∙ ten .before .before .before .if2 .left) in
     let f = sym (ap (λ (x : Tenure). isKept (x .ending)) t) ∙ sym (c .before .is-kept .ensures)
     ∙ not-false (c .before .is-kept .result) (c .if3 .left) in
-    let some = kept-some (a .path) (l .now .request) (l .inv .0 .way) (a .asked) _ (rw (facts .3) at f) in
+    let some = kept-some (a .route) (l .tenure .request) (l .inv .0 .way) (a .asked) _ (rw (facts .3) at f) in
     let n = k .kept .1 .0 in
     let m = k .kept .1 .1 .0 in (
       rw (t, n, m, facts .2) (roomy-on _ _ (l .inv .0 .way) _ _ (l .inv .0) some),
       rw t (omega (arith, facts .0, room)),
       rw (t, rw what at (k .ensures .0), rw what at (k .ensures .1))
-          (sym (held-on _ _ _ (l .now) (l .slave) (l .master) (fifteen .if1 .taken) room f) ∙ l .inv .2),
+          (sym (held-on _ _ _ (l .tenure) (l .slave) (l .master) (fifteen .if1 .taken) room f) ∙ l .inv .2),
       n ∙ l .inv .3,
       m ∙ l .inv .4,
     )
@@ -147,7 +147,7 @@ returns-3 : tie.Need-returns-3 Inv-loop μ-loop
 unfolding held
 returns-3 c =
     let l = c .before .before .loop in
-    let d : c .before .before .before .before .before .args .budget - l .now .done ≡ 0 = omega arith in
+    let d : c .before .before .before .before .before .args .budget - l .tenure .done ≡ 0 = omega arith in
     let e = rw d at (l .inv .2) in
     (ap (λ (x : Held). x .tenure) e, (ap (λ (x : Held). x .slave) e, ap (λ (x : Held). x .master) e))
 
@@ -163,7 +163,7 @@ hold-channel-spec =
     same-length
     same-length-2
     returns
-    bytes-of-requires
+    cycle-bytes-requires
     carry-of-requires
     carry-requires
     cycle-on-requires

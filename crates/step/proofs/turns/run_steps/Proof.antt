@@ -25,18 +25,18 @@ use Rattle.step.proofs.turns.run_steps.Statement.{statement}
 use Rattle.step.proofs.turns.run_steps.Tie as tie
 
 abbrev Inv-loop : tie.InvT-loop
-Inv-loop slave₀ master₀ budget inactive₀ direction₀ space₀ address₀ left₀ offset₀ paths base state₀ slave master inactive direction space
+Inv-loop slave₀ master₀ budget inactive₀ direction₀ space₀ address₀ left₀ offset₀ routes base state₀ slave master inactive direction space
     address left offset state =
     (length slave ≡ length slave₀)
     × (length master ≡ length master₀)
     × Lows base (state .low) (runningOf state inactive direction space address left offset slave master .channel)
     × ((setup : Setup)
-    → Going setup paths (runningOf state₀ inactive₀ direction₀ space₀ address₀ left₀ offset₀ slave₀ master₀)
-    → Runs setup budget paths (runningOf state₀ inactive₀ direction₀ space₀ address₀ left₀ offset₀ slave₀ master₀)
+    → Going setup routes (runningOf state₀ inactive₀ direction₀ space₀ address₀ left₀ offset₀ slave₀ master₀)
+    → Runs setup budget routes (runningOf state₀ inactive₀ direction₀ space₀ address₀ left₀ offset₀ slave₀ master₀)
     (runningOf state inactive direction space address left offset slave master))
 
 abbrev μ-loop : tie.MeasureT-loop
-μ-loop slave₀ master₀ budget inactive₀ direction₀ space₀ address₀ left₀ offset₀ paths base state₀ slave master inactive direction space
+μ-loop slave₀ master₀ budget inactive₀ direction₀ space₀ address₀ left₀ offset₀ routes base state₀ slave master inactive direction space
     address left offset state =
     nearness budget (state .full) (state .done)
 
@@ -49,8 +49,8 @@ loop-holds c =
     let low = c .lowest .ensures in
     (refl, refl, start-lows (s .args .setup) (s .args .channel) _ _ _ (s .pre .0) (low .0) (low .1), λ setup g. runs-first setup _ _ _ refl g)
 
-mul-path : tie.Need-mul-path Inv-loop μ-loop
-mul-path c =
+mul-route : tie.Need-mul-route Inv-loop μ-loop
+mul-route c =
     let five = c .before .before .before .before .before in
     let ten = five .before .before .before .before .before in
     let fifteen = ten .before .before .before .before .before in
@@ -58,11 +58,11 @@ mul-path c =
     let s = twenty .before .before in
     let l = five .loop in
     let runs = l .inv .3 (s .args .setup)
-    (record { ready = s .pre .0; shaped = s .pre .1 .0; routed = five .before .before .before .paths-of .ensures }) in
-    omega (arith, place-below _ _ _ (runs .going), c .place-at .ensures)
+    (record { ready = s .pre .0; shaped = s .pre .1 .0; routed = five .before .before .before .routes-of .ensures }) in
+    omega (arith, place-below _ _ _ (runs .going), c .owner-place .ensures)
 
-array-copy-out-path : tie.Need-array-copy-out-path Inv-loop μ-loop
-array-copy-out-path c =
+array-copy-out-route : tie.Need-array-copy-out-route Inv-loop μ-loop
+array-copy-out-route c =
     let five = c .before .before .before .before .before in
     let ten = five .before .before .before .before .before in
     let fifteen = ten .before .before .before .before .before in
@@ -70,8 +70,8 @@ array-copy-out-path c =
     let s = twenty .before .before in
     let l = five .loop in
     let runs = l .inv .3 (s .args .setup)
-    (record { ready = s .pre .0; shaped = s .pre .1 .0; routed = five .before .before .before .paths-of .ensures }) in
-    rw (c .place-at .ensures) (place-below _ _ _ (runs .going))
+    (record { ready = s .pre .0; shaped = s .pre .1 .0; routed = five .before .before .before .routes-of .ensures }) in
+    rw (c .owner-place .ensures) (place-below _ _ _ (runs .going))
 
 turn-requires : tie.Need-turn-requires Inv-loop μ-loop
 turn-requires c κs =
@@ -84,10 +84,10 @@ turn-requires c κs =
     let s = thirty .before in
     let l = ten .before .before .before .before .loop in
     let runs = l .inv .3 (s .args .setup)
-    (record { ready = s .pre .0; shaped = s .pre .1 .0; routed = fifteen .before .before .paths-of .ensures }) in
+    (record { ready = s .pre .0; shaped = s .pre .1 .0; routed = fifteen .before .before .routes-of .ensures }) in
     let more = ltb-true (l .state .done) (s .args .budget) (and-left _ _ (ten .before .if1 .taken)) in
     let open-yet = not-true (l .state .full) (and-right (ltb (l .state .done) (s .args .budget)) _ (ten .before .if1 .taken)) in
-    rw (five .before .before .before .before .place-at .ensures) (turnable _ _ _ _ (runs .going) open-yet more _ _ (s .pre .1 .1) (l .inv .2))
+    rw (five .before .before .before .before .owner-place .ensures) (turnable _ _ _ _ (runs .going) open-yet more _ _ (s .pre .1 .1) (l .inv .2))
 
 loop-less : tie.Need-loop-less Inv-loop μ-loop
 loop-less c =
@@ -101,10 +101,10 @@ loop-less c =
     let s = thirty-five .before in
     let l = fifteen .before .before .before .before .loop in
     let runs = l .inv .3 (s .args .setup)
-    (record { ready = s .pre .0; shaped = s .pre .1 .0; routed = twenty .before .before .paths-of .ensures }) in
+    (record { ready = s .pre .0; shaped = s .pre .1 .0; routed = twenty .before .before .routes-of .ensures }) in
     let more = ltb-true (l .state .done) (s .args .budget) (and-left _ _ (fifteen .before .if1 .taken)) in
     let open-yet = not-true (l .state .full) (and-right (ltb (l .state .done) (s .args .budget)) _ (fifteen .before .if1 .taken)) in
-    let later = turned-by _ _ _ _ (runs .going) open-yet more _ _ (ten .before .before .before .before .place-at .ensures)
+    let later = turned-by _ _ _ _ (runs .going) open-yet more _ _ (ten .before .before .before .before .owner-place .ensures)
     (c .before .before .before .before .turn .ensures .0) in
     nearer _ _ _ _ _ open-yet more (later .more more)
 
@@ -128,7 +128,7 @@ loop-again c =
       λ setup first.
           let runs = l .inv .3 setup first in
           runs-on setup _ _ _ _ _ runs (turned-by setup _ _ _ (runs .going) open-yet more _ _
-          (ten .before .before .before .before .place-at .ensures) (c .before .before .before .before .turn .ensures .0)),
+          (ten .before .before .before .before .owner-place .ensures) (c .before .before .before .before .turn .ensures .0)),
     )
 
 same-length : tie.Need-same-length Inv-loop μ-loop
@@ -150,7 +150,7 @@ returns c =
     let s = twenty .before .before .before .before in
     let l = five .before .before .loop in
     let runs = l .inv .3 (s .args .setup)
-    (record { ready = s .pre .0; shaped = s .pre .1 .0; routed = ten .paths-of .ensures }) in
+    (record { ready = s .pre .0; shaped = s .pre .1 .0; routed = ten .routes-of .ensures }) in
     let e = sym (finished _ _ _ (c .before .before .before .before .if1 .left) (runs .least)) ∙ runs .same
     ∙ first-come _ _ _ refl refl in (
       rw (c .channel-of .ensures, c .before .verdict-of .ensures) (ap (λ (x : Out). x .result) e),
@@ -163,12 +163,12 @@ run-steps-spec =
     (tie.spec
     Inv-loop
     μ-loop
-    (λ c κs. tt)  -- paths-of-requires
+    (λ c κs. tt)  -- routes-of-requires
     (λ c κs. tt)  -- lowest-requires
     loop-holds
-    (λ c κs. tt)  -- place-at-requires
-    mul-path
-    array-copy-out-path
+    (λ c κs. tt)  -- owner-place-requires
+    mul-route
+    array-copy-out-route
     turn-requires
     loop-less
     loop-again
