@@ -68,7 +68,7 @@ pub record LoggedAlike (a b : LoggedOut) : Type 0 where
   pub channel : a .result .ran .channel ≡ b .result .ran .channel
   pub steps : a .result .ran .steps ≡ b .result .ran .steps
   pub verdict : a .result .ran .verdict ≡ b .result .ran .verdict
-  pub past : a .result .past ≡ b .result .past
+  pub end : a .result .end ≡ b .result .end
   pub slave : a .slave ≡ b .slave
   pub master : a .master ≡ b .master
   pub out : a .out ≡ b .out
@@ -77,7 +77,7 @@ module _ (t u : Tally) where
   both-close : (verdict : Verdict) (done : ℕ) (ch : Channel) (slave master : List ℕ) (p : Page)
       → LoggedAlike (closed verdict done (world ch t slave master) p) (closed verdict done (world ch u slave master) p)
   both-close verdict done ch slave master p =
-      record { channel = refl; steps = refl; verdict = refl; past = refl; slave = refl; master = refl; out = refl }
+      record { channel = refl; steps = refl; verdict = refl; end = refl; slave = refl; master = refl; out = refl }
 
   both-log : (done : ℕ) (ch : Channel) (slave master : List ℕ) (p : Page) (a : StepAnswer) (f g : Entry → LoggedOut)
       → ((e : Entry) → LoggedAlike (f e) (g e))

@@ -7,14 +7,16 @@ use Rattle.step.proofs.carry_bytes.Tie as tie
 
 carry-requires : tie.Need-carry-requires
 carry-requires c κs =
-    let a = c .before .before .before .before .before .before .args in
+    let five = c .before .before .before .before .before in
+    let a = five .before .args in
     room-is (a .what) _ _ (sym (c .before .before .before .carry-fits .ensures) ∙ c .before .before .if1 .taken)
 
 returns : tie.Need-returns
 unfolding slaveAfterCarry masterAfterCarry
 returns c =
-    let e = sym (c .before .before .before .before .before .before .before .before .carry-fits .ensures)
-    ∙ c .before .before .before .before .before .before .before .if1 .taken in
+    let five = c .before .before .before .before .before in
+    let e = sym (five .before .before .before .carry-fits .ensures)
+    ∙ five .before .before .if1 .taken in
     let k = c .before .before .before .before .carry .ensures in
     (rw e (k .0), rw e (k .1))
 

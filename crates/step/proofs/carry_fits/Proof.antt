@@ -11,8 +11,9 @@ returns-2 c = let a = c .before .before .before .before .args in no-master (a .w
 
 returns-3 : tie.Need-returns-3
 returns-3 c =
-    let a = c .before .before .before .before .before .before .before .before .args in
-    both-room (a .what) (a .slave) (a .master) (omega (arith, c .before .before .before .before .before .before .if1 .left))
+    let five = c .before .before .before .before .before in
+    let a = five .before .before .before .args in
+    both-room (a .what) (a .slave) (a .master) (omega (arith, five .before .if1 .left))
     (omega (arith, c .before .before .before .before .if2 .left))
 
 pub carry-fits-spec : {M : Type 1} → statement M

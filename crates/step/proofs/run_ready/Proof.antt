@@ -13,7 +13,8 @@ run-steps-requires c κs = search needs
 
 returns-2 : tie.Need-returns-2
 returns-2 c =
-    let f = le-ltb _ _ (c .before .before .before .before .before .before .before .if1 .left) in
+    let five = c .before .before .before .before .before in
+    let f = le-ltb _ _ (five .before .before .if1 .left) in
     let k = c .before .before .before .before .run-steps .ensures in
     (rw f (k .0), (rw f (k .1 .0), rw f (k .1 .1)))
 

@@ -10,42 +10,48 @@ use Rattle.step.proofs.acts.act_on.Tie as tie
 
 returns : tie.Need-returns
 returns c =
-    let a = c .before .before .before .before .before .before .before .args in
-    let full = (ap (λ (x : ℕ). ltb clockLimit (c .before .before .before .before .before .before .before .args .standing .clock + x))
+    let five = c .before .before .before .before .before in
+    let a = five .before .before .args in
+    let full = (ap (λ (x : ℕ). ltb clockLimit (five .before .before .args .standing .clock + x))
     (sym (c .before .before .before .before .arbitration-time .ensures)) ∙ sym (c .before .before .before .is-full .ensures)
     ∙ c .before .before .if1 .taken) in
-    decides-full _ (a .standing) _ (a .left .now) (a .inactive .now) (c .before .before .before .before .before .enum-told .given .1) _
+    decides-full _ (a .standing) _ (a .left .now) (a .inactive .now) (five .enum-told .given .1) _
     full (c .stay .ensures ∙ rw (c .before .full-acted .ensures))
 
 choose-requires : tie.Need-choose-requires
 choose-requires c κs = from-first _ _
 
 granted-by-requires : tie.Need-granted-by-requires
-granted-by-requires c κs = ltb-false clockLimit _ (ap (λ (x : ℕ). ltb clockLimit
-    (c .before .before .before .before .before .before .before .args .standing .clock + x))
+granted-by-requires c κs =
+    let five = c .before .before .before .before .before in
+    ltb-false clockLimit _ (ap (λ (x : ℕ). ltb clockLimit
+    (five .before .before .args .standing .clock + x))
     (sym (c .before .before .before .before .arbitration-time .ensures)) ∙ sym (c .before .before .before .is-full .ensures)
     ∙ c .before .before .if1 .left)
 
 returns-2 : tie.Need-returns-2
 returns-2 c =
-    let a = c .before .before .before .before .before .before .before .args in
+    let five = c .before .before .before .before .before in
+    let a = five .before .before .args in
     decides-rest _ (a .standing) (a .request) (a .left .now) (a .inactive .now) _
-    (c .before .before .before .before .before .phase .given .1) _ (eq-eqb _ 0 (c .before .before .if2 .taken))
+    (five .phase .given .1) _ (eq-eqb _ 0 (c .before .before .if2 .taken))
     (c .stay3 .ensures ∙ rw (c .before .rest-acted .ensures))
 
 returns-3 : tie.Need-returns-3
 returns-3 c =
-    let a = c .before .before .before .before .before .before .before .before .before .args in
+    let five = c .before .before .before .before .before in
+    let a = five .before .before .before .before .args in
     decides-late _ (a .standing) (a .request) (a .left .now) (a .inactive .now) _
-    (c .before .before .before .before .before .before .before .phase .given .1)
+    (five .before .before .phase .given .1)
     (ne-eqb _ 0 (c .before .before .before .before .if2 .left)) _
     (sym (c .before .before .before .is-full2 .ensures) ∙ c .before .before .if3 .taken)
     (c .stay4 .ensures ∙ rw (c .before .full-acted2 .ensures))
 
 cycle-decided-requires : tie.Need-cycle-decided-requires
 cycle-decided-requires c κs =
-    let p = c .before .before .before .before .before .before .phase .given .1 in
-    let pre = c .before .before .before .before .before .before .before .before .pre in (
+    let five = c .before .before .before .before .before in
+    let p = five .before .phase .given .1 in
+    let pre = five .before .before .before .pre in (
       pre .small _ p,
       (
         ltb-false clockLimit _ (sym (c .before .before .is-full2 .ensures) ∙ c .before .if3 .left),
@@ -56,20 +62,22 @@ cycle-decided-requires c κs =
 
 returns-4 : tie.Need-returns-4
 returns-4 c =
-    let a = c .before .before .before .before .before .before .before .before .before .args in
+    let five = c .before .before .before .before .before in
+    let a = five .before .before .before .before .args in
     decides-grant _ (a .standing) _ (a .left .now) (a .inactive .now)
-    (c .before .before .before .before .before .before .before .enum-told .given .1) _ _ _ _
-    (ap (λ (x : ℕ). ltb clockLimit (c .before .before .before .before .before .before .before .before .before .args .standing .clock + x))
-    (sym (c .before .before .before .before .before .before .arbitration-time .ensures))
-    ∙ sym (c .before .before .before .before .before .is-full .ensures) ∙ c .before .before .before .before .if1 .left)
+    (five .before .before .enum-told .given .1) _ _ _ _
+    (ap (λ (x : ℕ). ltb clockLimit (five .before .before .before .before .args .standing .clock + x))
+    (sym (five .before .arbitration-time .ensures))
+    ∙ sym (five .is-full .ensures) ∙ c .before .before .before .before .if1 .left)
     (c .before .before .choose .ensures)
     (c .stay2 .ensures ∙ rw (c .before .granted-by .ensures))
 
 returns-5 : tie.Need-returns-5
 returns-5 c =
-    let a = c .before .before .before .before .before .before .before .before .before .args in
+    let five = c .before .before .before .before .before in
+    let a = five .before .before .before .before .args in
     decides-cycle _ (a .standing) (a .request) (a .left .now) (a .inactive .now) _
-    (c .before .before .before .before .before .before .before .phase .given .1)
+    (five .before .before .phase .given .1)
     (ne-eqb _ 0 (c .before .before .before .before .if2 .left)) _ _
     (sym (c .before .before .before .is-full2 .ensures) ∙ c .before .before .if3 .left) (c .cycle-decided .ensures .0)
     (c .cycle-decided .ensures .1)

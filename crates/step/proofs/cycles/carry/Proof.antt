@@ -5,10 +5,14 @@ use Rattle.step.proofs.cycles.carry.Statement.{statement}
 use Rattle.step.proofs.cycles.carry.Tie as tie
 
 move-bytes-requires : tie.Need-move-bytes-requires
-move-bytes-requires c κs = let r = c .before .before .before .before .before .before .pre in (r .slave, r .master)
+move-bytes-requires c κs =
+    let five = c .before .before .before .before .before in
+    let r = five .before .pre in (r .slave, r .master)
 
 move-bytes-requires-2 : tie.Need-move-bytes-requires-2
-move-bytes-requires-2 c κs = let r = c .before .before .before .before .before .before .pre in (r .master, r .slave)
+move-bytes-requires-2 c κs =
+    let five = c .before .before .before .before .before in
+    let r = five .before .pre in (r .master, r .slave)
 
 returns : tie.Need-returns
 unfolding movedSlave movedMaster

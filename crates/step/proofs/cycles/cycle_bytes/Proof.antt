@@ -14,7 +14,8 @@ returns-2 c = single-byte _ _ (c .before .before .before .before .before .pre)
 
 returns-3 : tie.Need-returns-3
 returns-3 c =
-    table-bytes _ _ (c .before .before .before .before .before .before .pre) (c .before .before .before .before .before .narrower-of .ensures)
+    let five = c .before .before .before .before .before in
+    table-bytes _ _ (five .before .pre) (five .narrower-of .ensures)
     (c .tabled-length .ensures)
 
 pub cycle-bytes-spec : {M : Type 1} → statement M

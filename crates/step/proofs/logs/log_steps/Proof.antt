@@ -108,13 +108,19 @@ loop-again c =
     )
 
 same-length : tie.Need-same-length Inv-loop μ-loop
-same-length c = c .before .before .before .before .before .before .before .before .loop .inv .0
+same-length c =
+    let five = c .before .before .before .before .before in
+    five .before .before .before .loop .inv .0
 
 same-length-2 : tie.Need-same-length-2 Inv-loop μ-loop
-same-length-2 c = c .before .before .before .before .before .before .before .before .loop .inv .1
+same-length-2 c =
+    let five = c .before .before .before .before .before in
+    five .before .before .before .loop .inv .1
 
 same-length-3 : tie.Need-same-length-3 Inv-loop μ-loop
-same-length-3 c = c .before .before .before .before .before .before .before .before .loop .inv .2
+same-length-3 c =
+    let five = c .before .before .before .before .before in
+    five .before .before .before .loop .inv .2
 
 returns : tie.Need-returns Inv-loop μ-loop
 returns c =

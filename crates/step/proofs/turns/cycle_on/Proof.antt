@@ -9,8 +9,10 @@ after-cycle-requires c κs = search needs
 
 returns : tie.Need-returns
 unfolding cycleOn afterCycle
-returns c = let after = c .before .before .before .after-cycle .ensures in rw
-    (c .before .add-cycle .ensures, after, c .before .before .before .before .before .before .pre .1 .0)
+returns c =
+    let five = c .before .before .before .before .before in
+    let after = c .before .before .before .after-cycle .ensures in rw
+    (c .before .add-cycle .ensures, after, five .before .pre .1 .0)
 
 pub cycle-on-spec : {M : Type 1} → statement M
 cycle-on-spec =

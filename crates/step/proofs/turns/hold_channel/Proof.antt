@@ -49,7 +49,9 @@ cycle-bytes-requires : tie.Need-cycle-bytes-requires Inv-loop μ-loop
 cycle-bytes-requires c κs = c .before .before .before .before .before .loop .inv .0 .way
 
 carry-of-requires : tie.Need-carry-of-requires Inv-loop μ-loop
-carry-of-requires c κs = (c .before .before .before .before .before .before .loop .inv .0 .way, c .cycle-bytes .ensures)
+carry-of-requires c κs =
+    let five = c .before .before .before .before .before in
+    (five .before .loop .inv .0 .way, c .cycle-bytes .ensures)
 
 carry-requires : tie.Need-carry-requires Inv-loop μ-loop
 carry-requires c κs =
