@@ -45,6 +45,10 @@ requestMost = 4096
 abbrev pub stepsMost : ℕ
 stepsMost = 65535
 
+-- "1, level, direction, space, address, length, offset": the most numbers that are read together, those of a post; no row has more
+abbrev pub numbersMost : ℕ
+numbersMost = 6
+
 -- "event count, 0 to 1,024"
 abbrev pub eventsMost : ℕ
 eventsMost = 1024

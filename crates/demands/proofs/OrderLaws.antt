@@ -158,7 +158,8 @@ posted-flows setup ch p l shaped ok =
     (λ t.
     let same : l ≡ p .level = sym (eqb-true (p .level) l t) in
     let small = level-facts-of setup (ok .framed) (p .level) (ok .present) .1 in
-    let none : requestOf ch l .left ≡ 0 = eqb-true _ 0 (by-test (eqb (requestOf ch l .left) 0) (λ z. z) (λ n. absurd (false≢true (sym (ok .none) ∙ rw (← same, n))))) in
+    let none : requestOf ch l .left ≡ 0 =
+    eqb-true _ 0 (by-test (eqb (requestOf ch l .left) 0) (λ z. z) (λ n. absurd (false≢true (sym (ok .none) ∙ rw (← same, n))))) in
     let k = r ∙ ap (requestOf (withRequest ch (p .level) (requestIn p))) same ∙ request-same ch (p .level) (requestIn p) shaped (omega (arith, small)) in
     rw (t, none) (sym (ap requestBytes k)))
     (λ f.

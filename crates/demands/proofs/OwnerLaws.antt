@@ -56,7 +56,8 @@ Told before (Done entry) later = (mayLog before entry ≡ true) × (later ≡ ph
 Told before (Refused why) later = later ≡ before
 
 module _ (setup : Setup) (ch : Channel) where
-  cycle-told : (o : ℕ) → actPlan setup ch ≡ plan.Cycle o → Told (ch .phase) (advancedBy setup ch (plan.Cycle o) .answer) (advancedBy setup ch (plan.Cycle o) .channel .phase)
+  cycle-told : (o : ℕ) → actPlan setup ch ≡ plan.Cycle o
+      → Told (ch .phase) (advancedBy setup ch (plan.Cycle o) .answer) (advancedBy setup ch (plan.Cycle o) .channel .phase)
   unfolding cycleTurn cycleEntry
   cycle-told o e =
       let c = nextCycle setup ch o in
@@ -66,11 +67,13 @@ module _ (setup : Setup) (ch : Channel) where
         ended-phase ending (movedOn ch o c) o ∙ ap (λ (x : Phase). heldAfter x ending) (moved-phase ch o c),
       )
 
-  grant-told : (w : ℕ) → actPlan setup ch ≡ plan.Grant w → Told (ch .phase) (advancedBy setup ch (plan.Grant w) .answer) (advancedBy setup ch (plan.Grant w) .channel .phase)
+  grant-told : (w : ℕ) → actPlan setup ch ≡ plan.Grant w
+      → Told (ch .phase) (advancedBy setup ch (plan.Grant w) .answer) (advancedBy setup ch (plan.Grant w) .channel .phase)
   unfolding grantTurn granted
   grant-told w e = let p = says setup ch (plan.Grant w) e in (rw (p .0) refl, rule-phase (granted ch w))
 
-  leave-told : (o : ℕ) → actPlan setup ch ≡ plan.Leave o → Told (ch .phase) (advancedBy setup ch (plan.Leave o) .answer) (advancedBy setup ch (plan.Leave o) .channel .phase)
+  leave-told : (o : ℕ) → actPlan setup ch ≡ plan.Leave o
+      → Told (ch .phase) (advancedBy setup ch (plan.Leave o) .answer) (advancedBy setup ch (plan.Leave o) .channel .phase)
   unfolding leaveTurn freed
   leave-told o e = let p = says setup ch (plan.Leave o) e in (rw (p .0) (eq-eqb o o refl), rule-phase (freed ch (ch .inactive)))
 

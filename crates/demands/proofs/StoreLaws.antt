@@ -228,7 +228,8 @@ module _ (setup : Setup) (m : Moment) (ready : Ready setup (m .channel) (length 
       (λ f. rw (f, source-none setup side x n (firstByte q) f)))
 
 -- one step
-by-plan : (setup : Setup) (m : Moment) (side : Side) (x : ℕ) → Ready setup (m .channel) (length (m .slave)) (length (m .master)) → (p : Plan) → actPlan setup (m .channel) ≡ p
+by-plan : (setup : Setup) (m : Moment) (side : Side) (x : ℕ)
+    → Ready setup (m .channel) (length (m .slave)) (length (m .master)) → (p : Plan) → actPlan setup (m .channel) ≡ p
     → getD (storeBy setup m p side) x 0
     ≡ brought side x m (broughtFrom m (sourceIn setup side x (carried (m .channel) (advancedBy setup (m .channel) p .answer))))
 unfolding grantTurn leaveTurn cycleTurn cycleEntry cycleOf

@@ -1,7 +1,7 @@
 -- Demand 3: "For any order of posts and steps after set-up, refused ones included: per level, bytes asked = bytes moved + bytes open; its cycles cover its
 -- requests in posting order, each byte once, only between its grant and its release; every store byte is the source byte, as it then stood, that the last cycle
--- into it carried, or its starting value; no owner holds the channel more than 7,800 ns past the first moment, from its grant on, when another level has an open
--- request." The theorems are `demand-3` and `after-set-up` in proofs/DemandLaws.
+-- into it carried, or its starting value; no owner holds the channel more than 7,800 ns past the first moment, from its grant on, when another level has an
+-- open request." The theorems are `demand-3` and `after-set-up` in proofs/DemandLaws.
 use Prim.Native.Nat.{ℕ, _+_, _≤_}
 use mathlib.Core.Path.{_≡_}
 use mathlib.Core.Bool.{true}

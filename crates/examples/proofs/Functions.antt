@@ -120,7 +120,6 @@ module _ {M : Type 1} (𝓤 : URA M) (H : Heap 𝓤) (A : Atoms 𝓤) (mem : Mem
       × One frame.row_fits.ended frame.row_fits.clauses
       × One frame.no_rows.ended frame.no_rows.clauses
       × One frame.row_size.ended frame.row_size.clauses
-      × One frame.bad_rows.ended frame.bad_rows.clauses
       × One frame.with_count.ended frame.with_count.clauses
       × One frame.put_row.ended frame.put_row.clauses
       × One frame.fitting_store.ended frame.fitting_store.clauses
@@ -137,7 +136,6 @@ module _ {M : Type 1} (𝓤 : URA M) (H : Heap 𝓤) (A : Atoms 𝓤) (mem : Mem
       × One frame.slave_store_length.ended frame.slave_store_length.clauses
       × One frame.store_place.ended frame.store_place.clauses
   of-frame = (
-    λ κs a g. alone 𝓤 _ (λ v w. refl),
     λ κs a g. alone 𝓤 _ (λ v w. refl),
     λ κs a g. alone 𝓤 _ (λ v w. refl),
     λ κs a g. alone 𝓤 _ (λ v w. refl),

@@ -15,12 +15,9 @@ use Rattle.refusal.specs.Refusal.{refusalNumber, refusalBy, refusedBy, verdictN
 use Rattle.refusal.specs.declared.Verdict.{Verdict}
 use Rattle.refusal.specs.declared.Verdict.the-variants.{Accepted, Refused}
 use Rattle.refusal.proofs.NumberLaws.{not-zero}
-use Rattle.number.specs.Number.{hasNumberRoom, wholeAt, writtenNumbers}
+use Rattle.number.specs.Number.{hasNumberRoom, wholeAt, writingNumbers}
 use Rattle.cycle.specs.Cycle.{isLength, isWidth, isPort, cycleCount}
 use Rattle.frame.specs.declared.Setup.{Setup}
-use Rattle.frame.specs.declared.RowKind.{RowKind}
-use Rattle.frame.specs.declared.RowKind.the-variants.{Levels, Slaves}
-use Rattle.frame.specs.Kind.{badRows}
 use Rattle.frame.specs.Rows.{isPresent}
 use Rattle.channel.specs.declared.Phase.{Phase}
 use Rattle.channel.specs.declared.Phase.the-variants.{Arbitrating, Granted}
@@ -52,7 +49,6 @@ use Rattle.numbers.specs.declared.Part.the-variants.{Good, Fault}
 use Rattle.sheet.specs.Sheet.{answered, sheetNumbers}
 use Rattle.examples.specs.Numbers.{
   RefusalRow,
-  badTold,
   firstNumber,
   broken,
   unsound,
@@ -161,12 +157,8 @@ unfolding stepOf
 step-number setup ch t slave master =
     as-planned setup ch (planOf setup ch (length slave) (length master)) ∙ plan-number setup ch (length slave) (length master)
 
-pub written-told : (s : List ℕ) (at : ℕ) (what : List ℕ) → writtenNumbers (wholeAt s at what) ≡ writtenTold s at what
+pub written-told : (s : List ℕ) (at : ℕ) (what : List ℕ) → writingNumbers (wholeAt s at what) ≡ writtenTold s at what
 written-told s at what = by-test (hasNumberRoom s at what) (λ t. rw t) (λ f. rw f)
-
-pub bad-told : (kind : RowKind) → refusalNumber (badRows kind) ≡ badTold kind
-bad-told Levels = refl
-bad-told Slaves = refl
 
 pub sheet-told : (j : Part) (need room : ℕ) → sheetNumbers (answered j need room) ≡ sheetTold j need room
 sheet-told (Good end) need room = by-test (leb need room) (λ t. rw t) (λ f. rw f)

@@ -15,12 +15,11 @@ use contract.Monad.{Fun, fact, fact-mono}
 use contract.Lifetimes.{Lfts}
 use denote.Triple.Entry.{Args, Res}
 use denote.Triple.Clauses.{Ended, Lasts, atExit}
-use Rattle.refusal.specs.Refusal.{refusalNumber, verdictNumber}
-use Rattle.refusal.specs.declared.Refusal.{Refusal}
+use Rattle.refusal.specs.Refusal.{verdictNumber}
 use Rattle.refusal.specs.declared.Verdict.{Verdict}
 use Rattle.number.specs.declared.NumberRead.{NumberRead}
 use Rattle.number.specs.declared.NumberWritten.{NumberWritten}
-use Rattle.number.specs.Number.{readNumber, readNumbers, bytesOf, writeNumber, writtenNumbers}
+use Rattle.number.specs.Number.{readNumber, readingNumbers, bytesOf, writeNumber, writingNumbers}
 use Rattle.cycle.specs.declared.Counted.{Counted}
 use Rattle.channel.specs.declared.Judged.{Judged}
 use Rattle.channel.specs.Channel.{Shaped}
@@ -42,7 +41,6 @@ use Rattle.numbers.proofs as numbers
 use Rattle.cycle.proofs as cycle
 use Rattle.channel.proofs as channel
 use Rattle.sound.proofs as sound
-use Rattle.frame.proofs as frame
 use Rattle.post.proofs as post
 use Rattle.step.proofs as step
 use Rattle.lent.proofs as lent
@@ -59,7 +57,6 @@ use Rattle.examples.specs.Numbers.{
   runRows,
   logRows,
   writtenTold,
-  badTold,
   sheetTold,
 }
 use Rattle.examples.proofs.Unique.{Contract}
@@ -75,7 +72,6 @@ use Rattle.examples.proofs.NumberLaws.{
   run-number,
   log-number,
   written-told,
-  bad-told,
   sheet-told,
 }
 
@@ -187,20 +183,17 @@ module _ {M : Type 1} (𝓤 : URA M) (H : Heap 𝓤) (A : Atoms 𝓤) (mem : Mem
 
   -- 10 and 11 are in `readNumber`, so this says no more than its equation; of a sheet 10 to 16 are in `sheet`, with their places
   of-read-number : Tells number.read_number.ended number.read_number.clauses
-      (λ κs a (r : NumberRead). readNumbers r ≡ readNumbers (readNumber (a .0 .now) (a .1 .0)))
-  of-read-number κs a g r ws = alone _ (λ (r : NumberRead). readNumbers r ≡ readNumbers (readNumber (a .0 .now) (a .1 .0))) refl r
-
-  of-bad-rows : Tells frame.bad_rows.ended frame.bad_rows.clauses (λ κs a (r : Refusal). refusalNumber r ≡ badTold (a .0))
-  of-bad-rows κs a g r ws = alone _ (λ (r : Refusal). refusalNumber r ≡ _) (bad-told (a .0)) r
+      (λ κs a (r : NumberRead). readingNumbers r ≡ readingNumbers (readNumber (a .0 .now) (a .1 .0)))
+  of-read-number κs a g r ws = alone _ (λ (r : NumberRead). readingNumbers r ≡ readingNumbers (readNumber (a .0 .now) (a .1 .0))) refl r
 
   of-number-at : Tells numbers.number_at.ended numbers.number_at.clauses
-      (λ κs a (r : NumberRead). readNumbers r ≡ readNumbers (numberAt (a .1 .1 .0) (a .0 .now) (a .1 .0 .now) (a .1 .1 .1 .0)))
-  of-number-at κs a g r ws = alone _ (λ (r : NumberRead). readNumbers r ≡ _) refl r
+      (λ κs a (r : NumberRead). readingNumbers r ≡ readingNumbers (numberAt (a .1 .1 .0) (a .0 .now) (a .1 .0 .now) (a .1 .1 .1 .0)))
+  of-number-at κs a g r ws = alone _ (λ (r : NumberRead). readingNumbers r ≡ _) refl r
 
   of-number-between : Tells numbers.number_between.ended numbers.number_between.clauses
-      (λ κs a (r : NumberRead). readNumbers r ≡ readNumbers
+      (λ κs a (r : NumberRead). readingNumbers r ≡ readingNumbers
       (numberBetween (numberAt (a .1 .1 .0) (a .0 .now) (a .1 .0 .now)) (a .1 .1 .1 .0) (a .1 .1 .1 .1 .0) (a .1 .1 .1 .1 .1 .0) (a .1 .1 .1 .1 .1 .1 .0)))
-  of-number-between κs a g r ws = alone _ (λ (r : NumberRead). readNumbers r ≡ _) refl r
+  of-number-between κs a g r ws = alone _ (λ (r : NumberRead). readingNumbers r ≡ _) refl r
 
   of-numbers-at : Tells numbers.numbers_at.ended numbers.numbers_at.clauses
       (λ κs a (r : Taken). partNumbers (r .part)
@@ -211,22 +204,22 @@ module _ {M : Type 1} (𝓤 : URA M) (H : Heap 𝓤) (A : Atoms 𝓤) (mem : Mem
   of-head κs a g r ws = alone _ (λ (r : RowsRead). partNumbers (r .part) ≡ _) refl r
 
   of-write-number : Tells number.write_number.ended number.write_number.clauses
-      (λ κs a (r : NumberWritten). writtenNumbers r ≡ writtenTold (a .0 .now) (a .1 .0) (bytesOf (a .1 .1 .0)))
+      (λ κs a (r : NumberWritten). writingNumbers r ≡ writtenTold (a .0 .now) (a .1 .0) (bytesOf (a .1 .1 .0)))
   unfolding writeNumber
   of-write-number κs a g r ws =
-      lent-one _ (λ (r : NumberWritten). writtenNumbers r ≡ _) (written-told (a .0 .now) (a .1 .0) (bytesOf (a .1 .1 .0))) r _
+      lent-one _ (λ (r : NumberWritten). writingNumbers r ≡ _) (written-told (a .0 .now) (a .1 .0) (bytesOf (a .1 .1 .0))) r _
 
   of-copy-numbers : Tells numbers.copy_numbers.ended numbers.copy_numbers.clauses
-      (λ κs a (r : NumberWritten). writtenNumbers r ≡ writtenTold (a .1 .0 .now) 0 (numbersOf (a .0 .now)))
+      (λ κs a (r : NumberWritten). writingNumbers r ≡ writtenTold (a .1 .0 .now) 0 (numbersOf (a .0 .now)))
   unfolding copyNumbers
   of-copy-numbers κs a g r ws =
-      lent-one _ (λ (r : NumberWritten). writtenNumbers r ≡ _) (written-told (a .1 .0 .now) 0 (numbersOf (a .0 .now))) r _
+      lent-one _ (λ (r : NumberWritten). writingNumbers r ≡ _) (written-told (a .1 .0 .now) 0 (numbersOf (a .0 .now))) r _
 
   of-write-numbers : Tells numbers.write_numbers.ended numbers.write_numbers.clauses
-      (λ κs a (r : NumberWritten). writtenNumbers r ≡ writtenTold (a .1 .0 .now) (a .1 .1 .0) (allBytes (a .0 .now)))
+      (λ κs a (r : NumberWritten). writingNumbers r ≡ writtenTold (a .1 .0 .now) (a .1 .1 .0) (allBytes (a .0 .now)))
   unfolding writeNumbers
   of-write-numbers κs a g r ws =
-      lent-one _ (λ (r : NumberWritten). writtenNumbers r ≡ _) (written-told (a .1 .0 .now) (a .1 .1 .0) (allBytes (a .0 .now))) r _
+      lent-one _ (λ (r : NumberWritten). writingNumbers r ≡ _) (written-told (a .1 .0 .now) (a .1 .1 .0) (allBytes (a .0 .now))) r _
 
   of-read-sheet : Tells sheet.read_sheet.ended sheet.read_sheet.clauses
       (λ κs a (r : SheetAnswer).

@@ -10,8 +10,6 @@ use Rattle.refusal.specs.Refusal.{refusalNumber}
 use Rattle.basics.specs.Limits.{clockLimit, memoryEnd, stepsMost}
 use Rattle.cycle.specs.Cycle.{isLength, isWidth, isPort}
 use Rattle.frame.specs.declared.Setup.{Setup}
-use Rattle.frame.specs.declared.RowKind.{RowKind}
-use Rattle.frame.specs.declared.RowKind.the-variants.{Levels, Slaves}
 use Rattle.frame.specs.Frame.{isFramed}
 use Rattle.frame.specs.Find.{slaveStoreLength}
 use Rattle.frame.specs.Rows.{isPresent}
@@ -100,8 +98,3 @@ writtenTold s at what = cond (leb (at + length what) (length s)) (0 ∷ (at + le
 abbrev pub sheetTold : Part → ℕ → ℕ → List ℕ
 sheetTold (Good end) need room = cond (leb need room) (0 ∷ need ∷ []) (17 ∷ 0 ∷ [])
 sheetTold (Fault why place) need room = refusalNumber why ∷ place ∷ []
-
--- "13: level count or row against the frame. 14: slave count or row against the frame."
-abbrev pub badTold : RowKind → ℕ
-badTold Levels = 13
-badTold Slaves = 14

@@ -16,7 +16,7 @@ use Rattle.frame.specs.declared.Setup.{Setup}
 use Rattle.frame.specs.declared.RowKind.{RowKind}
 use Rattle.frame.specs.declared.RowKind.the-variants.{Levels, Slaves}
 use Rattle.frame.specs.Frame.{noLevel, noSlave, levelAt, slaveAt, levelRowFits, isRising, isLastFifteen, slaveRowFits, isApart, areApart, lengthsBefore}
-use Rattle.frame.specs.Kind.{levelFrom, slaveFrom, rowCount, withCount, putRow, rowFits}
+use Rattle.frame.specs.Kind.{levelFrom, slaveFrom, withCount, putRow, rowFits}
 
 pub put-none : (setup : Setup) (kind : RowKind) (i : ℕ) (row : List ℕ) → length (setup .levels .rows) ≤ i → length (setup .slaves .rows) ≤ i
     → putRow setup kind i row ≡ setup
@@ -28,6 +28,11 @@ pub put-alike : (setup : Setup) (kind : RowKind) (i : ℕ) (a b : List ℕ) → 
     → putRow setup kind i a ≡ putRow setup kind i b
 put-alike setup Levels i a b same = rw (same 0, same 1, same 2)
 put-alike setup Slaves i a b same = rw (same 0, same 1, same 2, same 3, same 4)
+
+-- how many rows of a kind there are
+abbrev pub rowCount : Setup → RowKind → ℕ
+rowCount setup Levels = setup .levels .count
+rowCount setup Slaves = setup .slaves .count
 
 -- the count stays where a row is put, and is the one that was given
 pub put-count : (setup : Setup) (kind : RowKind) (i : ℕ) (row : List ℕ) → rowCount (putRow setup kind i row) kind ≡ rowCount setup kind

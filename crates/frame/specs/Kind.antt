@@ -4,8 +4,6 @@ use mathlib.Core.Bool.{Bool}
 use mathlib.Core.List.{List}
 use lib.ListN.{getD, set, replicate}
 use Rattle.basics.specs.Limits.{rowsMost}
-use Rattle.refusal.specs.declared.Refusal.{Refusal}
-use Rattle.refusal.specs.Refusal.{refusalBy}
 use Rattle.frame.specs.declared.LevelRow.{LevelRow}
 use Rattle.frame.specs.declared.SlaveRow.{SlaveRow}
 use Rattle.frame.specs.declared.LevelRows.{LevelRows}
@@ -19,11 +17,6 @@ use Rattle.frame.specs.Frame.{noLevel, noSlave, levelRowFits, slaveRowFi
 abbrev pub rowSize : RowKind → ℕ
 rowSize Levels = 3
 rowSize Slaves = 5
-
--- "13: level count or row against the frame. 14: slave count or row against the frame."
-abbrev pub badRows : RowKind → Refusal
-badRows Levels = refusalBy 13
-badRows Slaves = refusalBy 14
 
 -- a row by its numbers
 abbrev pub levelFrom : List ℕ → LevelRow
@@ -48,10 +41,6 @@ noRows =
       slaves = record { rows = replicate rowsMost noSlave; count = 0 };
       master = 0;
     }
-
-abbrev pub rowCount : Setup → RowKind → ℕ
-rowCount setup Levels = setup .levels .count
-rowCount setup Slaves = setup .slaves .count
 
 abbrev pub withCount : Setup → RowKind → ℕ → Setup
 withCount setup Levels count = withLevels setup (record { rows = setup .levels .rows; count = count })

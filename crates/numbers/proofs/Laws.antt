@@ -10,6 +10,7 @@ use lib.ListN.{length, getD, drop, set, replicate, drop-of-length-le, length-app
 use lib.Seq.{sets, sets-eq, drop-cons, getD-append-add, getD-drop}
 use lib.Dec.{leb, ltb}
 use borrow.Author.Tests.{ltb-true, ltb-false, leb-true}
+use Rattle.basics.specs.Limits.{numbersMost}
 use Rattle.basics.proofs.Tests.{by-test, and-left, and-right}
 use Rattle.refusal.specs.declared.Refusal.{Refusal}
 use Rattle.refusal.specs.declared.Refusal.the-variants.{SheetEnds}
@@ -107,9 +108,9 @@ zeros (suc n) zero = refl
 zeros (suc n) (suc i) = zeros n i
 
 -- numbers keep their values in the six places; after them stands 0, as past a list's end
-pub padded-at : (row : List ℕ) (j : ℕ) → length row ≤ 6 → getD (padded row) j 0 ≡ getD row j 0
+pub padded-at : (row : List ℕ) (j : ℕ) → length row ≤ numbersMost → getD (padded row) j 0 ≡ getD row j 0
 padded-at row j h =
-    let none : List ℕ = replicate 6 0 in
+    let none : List ℕ = replicate numbersMost 0 in
     let rest = drop (length row) none in
     let e : padded row ≡ row ++ rest = sets-eq row none 0 (omega arith) ∙ ap (λ (k : ℕ). row ++ drop k none) (zero-add (length row)) in
     rw e
@@ -121,7 +122,7 @@ padded-at row j h =
     ap (λ (i : ℕ). getD (row ++ rest) i 0) (sym k)
     ∙ getD-append-add row rest (j - length row) 0
     ∙ getD-drop (length row) none (j - length row) 0
-    ∙ zeros 6 (length row + (j - length row))
+    ∙ zeros numbersMost (length row + (j - length row))
     ∙ sym (List·getD-eq-default row 0 g)))
 
 -- what the judge reads, by its parts

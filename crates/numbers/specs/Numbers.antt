@@ -8,6 +8,7 @@ use lib.Seq.{sets}
 use lib.Dec.{leb, ltb}
 use Rattle.refusal.specs.declared.Refusal.{Refusal}
 use Rattle.refusal.specs.Refusal.{refusalNumber, refusalBy}
+use Rattle.basics.specs.Limits.{numbersMost}
 use Rattle.number.specs.declared.NumberRead.{NumberRead}
 use Rattle.number.specs.declared.NumberRead.the-variants.{Number, Refused}
 use Rattle.number.specs.declared.NumberWritten.{NumberWritten}
@@ -69,13 +70,13 @@ numbers src (suc n) at = followed (src at) (λ next. numbers src n next)
 
 -- up to six of them, in six places; those after them hold 0
 abbrev pub padded : List ℕ → List ℕ
-padded row = sets (replicate 6 0) 0 row
+padded row = sets (replicate numbersMost 0) 0 row
 
 abbrev pub taken : Source → ℕ → ℕ → Taken
 taken src n at = record { values = padded (numbers src n at); part = passed src n at }
 
 unfoldable pub numbersAt : Source → ℕ → ℕ → Taken
-numbersAt src n at = taken src (min n 6) at
+numbersAt src n at = taken src (min n numbersMost) at
 
 -- the numbers of bytes, up to the end or to a fault; and the bytes of a list of numbers
 unfoldable pub numbersOf : List ℕ → List ℕ

@@ -1,5 +1,6 @@
 // Numbers in a row (document 01, "The job sheet": a sheet is "a row of numbers"), from their bytes or from a list. Whoever
 // judges such a row reads it through one source, and so judges bytes and a list alike.
+use basics::NUMBERS_MOST;
 use number::NumberRead;
 use number::NumberWritten;
 use refusal::Refusal;
@@ -7,11 +8,9 @@ ghost use mathlib.Core.Path.{_≡_};
 ghost use Prim.Native.Nat.{_+_, _≤_};
 ghost use lib.ListN.{length};
 ghost use lib.Seq.{sets};
+ghost use Rattle.basics.specs.Limits.{numbersMost};
 ghost use Rattle.numbers.specs.Numbers.{numberAt, lengthOf, numberBetween, taken, numbersAt};
 ghost use Rattle.numbers.specs.Numbers.{numbersOf, allBytes, countNumbers, bytesSize, copyNumbers, copyNumbersAfter, writeNumbers, writeNumbersAfter};
-
-// The most numbers that are taken at once: those of a post.
-pub const TAKEN_MOST: usize = 6;
 
 // A part of a row as its judge finds it: good, with the place after it; or its first fault, with the fault's place.
 pub enum Part {
@@ -21,7 +20,7 @@ pub enum Part {
 
 // Up to six numbers, as far as they can be read; the places after them hold 0.
 pub struct Taken {
-    pub values: [u32; TAKEN_MOST],
+    pub values: [u32; NUMBERS_MOST],
     pub part: Part,
 }
 
@@ -71,10 +70,10 @@ pub fn number_between(
 
 // The n numbers from a place on, where that are six at most.
 fn take_numbers(bytes: &[u8], list: &[u32], listed: bool, n: usize, at: usize) -> Taken
-    requires { ⌜ n ≤ 6 ⌝ }
+    requires { ⌜ n ≤ numbersMost ⌝ }
     ensures { λ r. ⌜ r ≡ taken (numberAt listed (now (bytes .entry)) (now (list .entry))) n at ⌝ }
 {
-    let mut values = [0u32; TAKEN_MOST];
+    let mut values = [0u32; NUMBERS_MOST];
     let mut i: usize = 0;
     let mut place = at;
     while i < n {
@@ -99,10 +98,10 @@ fn take_numbers(bytes: &[u8], list: &[u32], listed: bool, n: usize, at: usize) -
 pub fn numbers_at(bytes: &[u8], list: &[u32], listed: bool, n: usize, at: usize) -> Taken
     ensures { λ r. ⌜ r ≡ numbersAt (numberAt listed (now (bytes .entry)) (now (list .entry))) n at ⌝ }
 {
-    if n < TAKEN_MOST {
+    if n < NUMBERS_MOST {
         return take_numbers(bytes, list, listed, n, at);
     }
-    take_numbers(bytes, list, listed, TAKEN_MOST, at)
+    take_numbers(bytes, list, listed, NUMBERS_MOST, at)
 }
 
 // How many numbers the bytes hold, up to the end or to a fault.

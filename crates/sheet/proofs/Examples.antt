@@ -134,7 +134,8 @@ allHold (e ∷ es) = holds e && allHold es
 
 examples : allHold table ≡ true
 unfolding allHold table holds same saysDone saysRefused levelPart rows small smallList
-    readSheet readSheetAfter writeSheet writeSheetAfter numbersOf sheet body head countedRows countedEvents event stepCount numberBetween listAt readNumber bytesOf
+    readSheet readSheetAfter writeSheet writeSheetAfter numbersOf
+    sheet body head countedRows countedEvents event stepCount numberBetween listAt readNumber bytesOf
     isLevelInRange isRising isLastFifteen levelRowFits isTime limitOf isPlaced isSlaveInRange areApart isApart lengthsBefore slaveRowFits
     isWidth isPort allBelow
 examples = refl

@@ -4,7 +4,7 @@ use Prim.Native.Nat.{ℕ, suc, _+_, _≤_, min}
 use mathlib.Core.Path.{_≡_, refl, sym, ap, _∙_}
 use mathlib.Core.Bool.{true, false}
 use native.Mathlib.Omega.{arith}
-use Rattle.basics.specs.Limits.{rowsMost}
+use Rattle.basics.specs.Limits.{rowsMost, numbersMost}
 use Rattle.refusal.specs.declared.Refusal.{Refusal}
 use Rattle.number.specs.declared.NumberRead.{NumberRead}
 use Rattle.number.specs.declared.NumberRead.the-variants.{Number, Refused as NoNumber}
@@ -16,10 +16,10 @@ use Rattle.numbers.proofs.Laws.{padded-at, numbers-most}
 use Rattle.frame.specs.declared.Setup.{Setup}
 use Rattle.frame.specs.declared.RowKind.{RowKind}
 use Rattle.frame.specs.declared.RowKind.the-variants.{Levels, Slaves}
-use Rattle.frame.specs.Kind.{rowSize, badRows, noRows, withCount, putRow, rowFits}
+use Rattle.frame.specs.Kind.{rowSize, noRows, withCount, putRow, rowFits}
 use Rattle.frame.proofs.KindLaws.{put-alike}
 use Rattle.sheet.specs.declared.RowsRead.{RowsRead}
-use Rattle.sheet.specs.Sheet.{rowsRead, rowsFrom, countedRows, head, event, events}
+use Rattle.sheet.specs.Sheet.{badRows, rowsRead, rowsFrom, countedRows, head, event, events}
 
 module _ (src : Source) (at : ℕ) {left k : ℕ} (more : left ≡ suc k) where
   -- rows
@@ -28,7 +28,7 @@ module _ (src : Source) (at : ℕ) {left k : ℕ} (more : left ≡ suc k) where
         → rowsFrom kind src left i setup at ≡ rowsRead setup (Fault why p)
     rows-fault r = rw (more, r)
 
-    -- `with` is the set-up with the row in it
+    -- `put` is the set-up with the row in it
     module _ {next : ℕ} {put : Setup} (read : passed src (rowSize kind) at ≡ Good next)
         (is : put ≡ putRow setup kind i (numbers src (rowSize kind) at)) where
       pub rows-on : rowFits put kind i ≡ true → rowsFrom kind src left i setup at ≡ rowsFrom kind src k (i + 1) put next
@@ -44,12 +44,12 @@ module _ (src : Source) (at : ℕ) {left k : ℕ} (more : left ≡ suc k) where
   pub events-fault : {why : Refusal} {p : ℕ} → event src at ≡ Fault why p → events src left at ≡ Fault why p
   events-fault r = rw (more, r)
 
--- no row has more than six numbers, and those that were taken are put as they are
-size-few : (kind : RowKind) → min (rowSize kind) 6 ≡ rowSize kind
+-- no row has more numbers than are read together, and those that were taken are put as they are
+size-few : (kind : RowKind) → min (rowSize kind) numbersMost ≡ rowSize kind
 size-few Levels = refl
 size-few Slaves = refl
 
-pub size-most : (kind : RowKind) → rowSize kind ≤ 6
+pub size-most : (kind : RowKind) → rowSize kind ≤ numbersMost
 size-most kind = omega (arith, size-few kind)
 
 module _ (src : Source) (kind : RowKind) (at : ℕ) (got : Taken) (is : got ≡ numbersAt src (rowSize kind) at) where

@@ -15,9 +15,10 @@ use Rattle.numbers.proofs.Moved.{moved, movedTo, cond-moved, then-moved, betwee
 use Rattle.frame.specs.declared.Setup.{Setup}
 use Rattle.frame.specs.declared.RowKind.{RowKind}
 use Rattle.frame.specs.declared.RowKind.the-variants.{Levels, Slaves}
-use Rattle.frame.specs.Kind.{rowSize, badRows, noRows, withCount, putRow, rowFits}
+use Rattle.frame.specs.Kind.{rowSize, noRows, withCount, putRow, rowFits}
 use Rattle.sheet.specs.declared.RowsRead.{RowsRead}
 use Rattle.sheet.specs.Sheet.{
+  badRows,
   rowsRead,
   thenRows,
   withRows,

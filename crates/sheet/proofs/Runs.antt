@@ -18,9 +18,9 @@ use Rattle.numbers.proofs.Runs.Tells.{fault}
 use Rattle.frame.specs.declared.Setup.{Setup}
 use Rattle.frame.specs.declared.RowKind.{RowKind}
 use Rattle.frame.specs.declared.RowKind.the-variants.{Levels, Slaves}
-use Rattle.frame.specs.Kind.{rowSize, badRows, noRows, withCount, putRow, rowFits}
+use Rattle.frame.specs.Kind.{rowSize, noRows, withCount, putRow, rowFits}
 use Rattle.sheet.specs.declared.RowsRead.{RowsRead}
-use Rattle.sheet.specs.Sheet.{thenRows, withRows, rowsFrom, countedRows, head, stepCount, event, events, countedEvents, body, sheet}
+use Rattle.sheet.specs.Sheet.{badRows, thenRows, withRows, rowsFrom, countedRows, head, stepCount, event, events, countedEvents, body, sheet}
 
 bad-eleven : (kind : RowKind) → refusalNumber (badRows kind) ≡ 11 → ⊥
 bad-eleven Levels e = omega arith

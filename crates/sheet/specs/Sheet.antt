@@ -6,6 +6,7 @@ use mathlib.Core.List.{List, [], _∷_}
 use lib.ListN.{length}
 use lib.Seq.{sets}
 use lib.Dec.{eqb, leb, ltb}
+use Rattle.refusal.specs.declared.Refusal.{Refusal}
 use Rattle.refusal.specs.Refusal.{refusalNumber, refusalBy}
 use Rattle.basics.specs.Limits.{rowsMost, stepsMost, eventsMost}
 use Rattle.number.specs.Number.{readNumber}
@@ -17,7 +18,7 @@ use Rattle.numbers.specs.declared.Part.the-variants.{Good, Fault}
 use Rattle.frame.specs.declared.Setup.{Setup}
 use Rattle.frame.specs.declared.RowKind.{RowKind}
 use Rattle.frame.specs.declared.RowKind.the-variants.{Levels, Slaves}
-use Rattle.frame.specs.Kind.{rowSize, badRows, noRows, withCount, putRow, rowFits}
+use Rattle.frame.specs.Kind.{rowSize, noRows, withCount, putRow, rowFits}
 use Rattle.sheet.specs.declared.RowsRead.{RowsRead}
 use Rattle.sheet.specs.declared.SheetAnswer.{SheetAnswer}
 use Rattle.sheet.specs.declared.SheetAnswer.the-variants.{Done, Refused}
@@ -34,6 +35,11 @@ thenRows (Fault why place) setup f = rowsRead setup (Fault why place)
 abbrev pub withRows : NumberRead → Setup → (ℕ → ℕ → RowsRead) → RowsRead
 withRows (Number n next) setup f = f n next
 withRows (NoNumber why place) setup f = rowsRead setup (Fault why place)
+
+-- "13: level count or row against the frame. 14: slave count or row against the frame."
+abbrev pub badRows : RowKind → Refusal
+badRows Levels = refusalBy 13
+badRows Slaves = refusalBy 14
 
 -- `left` rows of a kind from row i on, the rows before it being in the set-up. "a row [is judged] when all its numbers are read,
 -- against the frame and the rows before it; its 13 or 14 is placed at its first number"

@@ -14,7 +14,7 @@ ghost use Prim.Native.Nat.{_≤_};
 ghost use lib.ListN.{length};
 ghost use Rattle.basics.specs.Limits.{rowsMost};
 ghost use Rattle.numbers.specs.Numbers.{numberAt, lengthOf};
-ghost use Rattle.sheet.specs.Sheet.{rowsFrom, countedRows, head, headOf};
+ghost use Rattle.sheet.specs.Sheet.{badRows, rowsFrom, countedRows, head, headOf};
 ghost use Rattle.sheet.specs.Sheet.{stepCount, event, events, countedEvents, sheetEnd, body, sheet};
 ghost use Rattle.sheet.specs.Sheet.{readSheet, readSheetAfter, writeSheet, writeSheetAfter};
 
@@ -28,6 +28,16 @@ pub struct RowsRead {
 pub enum SheetAnswer {
     Done(usize),
     Refused(Refusal, usize),
+}
+
+// What refuses a row of a kind, or the count of such rows.
+fn bad_rows(kind: RowKind) -> Refusal
+    ensures { λ r. ⌜ r ≡ badRows kind ⌝ }
+{
+    match kind {
+        RowKind::Levels => Refusal::BadLevels,
+        RowKind::Slaves => Refusal::BadSlaves,
+    }
 }
 
 // The rows of a kind from a place on. A row is put into the set-up when all its numbers are read, and then tested.
@@ -56,7 +66,7 @@ fn read_rows(
         let values = got.values;
         setup = frame::put_row(setup, kind, i, values);
         if !frame::row_fits(setup, kind, i) {
-            let part = Part::Fault(frame::bad_rows(kind), place);
+            let part = Part::Fault(bad_rows(kind), place);
             return RowsRead { setup, part };
         }
         place = next;
@@ -77,7 +87,7 @@ fn counted_rows(
 ) -> RowsRead
     ensures { λ r. ⌜ r ≡ countedRows kind (numberAt listed (now (bytes .entry)) (now (list .entry))) setup at ⌝ }
 {
-    let why = frame::bad_rows(kind);
+    let why = bad_rows(kind);
     let got = numbers::number_between(bytes, list, listed, 1, ROWS_MOST_U32, why, at);
     match got {
         NumberRead::Refused(why, place) => {

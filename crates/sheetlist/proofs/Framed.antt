@@ -25,8 +25,9 @@ use Rattle.frame.specs.declared.RowKind.{RowKind}
 use Rattle.frame.specs.declared.RowKind.the-variants.{Levels, Slaves}
 use Rattle.frame.specs.declared.LevelRows.{LevelRows}
 use Rattle.frame.specs.Frame.{levelAt, slaveAt, isRowCount, isMasterLength, levelsFit, slavesFit, isFramed}
-use Rattle.frame.specs.Kind.{rowSize, levelFrom, slaveFrom, badRows, noRows, rowCount, withCount, putRow, rowFits}
+use Rattle.frame.specs.Kind.{rowSize, levelFrom, slaveFrom, noRows, withCount, putRow, rowFits}
 use Rattle.frame.proofs.KindLaws.{
+  rowCount,
   Wide,
   HasRow,
   SameRows,
@@ -44,7 +45,7 @@ use Rattle.frame.proofs.KindLaws.{
 }
 use Rattle.sheet.specs.declared.RowsRead.{RowsRead}
 use Rattle.sheet.specs.declared.SheetAnswer.the-variants.{Done}
-use Rattle.sheet.specs.Sheet.{rowsRead, rowsFrom, countedRows, head, headOf, countedEvents, sheet, readSheet, readSheetAfter}
+use Rattle.sheet.specs.Sheet.{badRows, rowsRead, rowsFrom, countedRows, head, headOf, countedEvents, sheet, readSheet, readSheetAfter}
 use Rattle.sheet.proofs.Calls.{read-list}
 use Rattle.sheet.proofs.Parts.{sheet-parts, head-parts, then-rows-good, with-rows-good}
 use Rattle.sheetlist.specs.Held.{setupOf, eventsFrom}

@@ -77,5 +77,6 @@ module _ (setup : Setup) (framed : isFramed setup ≡ true) where
   unfolding transferOf nextTime routeOf
   transfer-fits l q p f =
       let s = slave-facts-of q f .facts in
-      time-most (levelOf (setup .levels) l .width) (slaveOf (setup .slaves) q .port) (level-facts-of setup framed l p .0 .width) (s .port) (q .address) (q .left)
+      time-most (levelOf (setup .levels) l .width) (slaveOf (setup .slaves) q .port)
+      (level-facts-of setup framed l p .0 .width) (s .port) (q .address) (q .left)
       (slaveOf (setup .slaves) q .time) (allowanceOf setup) (quarter setup (slaveOf (setup .slaves) q) s)

@@ -21,7 +21,8 @@ ghost use lib.Dec.{leb, ltb};
 ghost use Rattle.basics.specs.Limits.{places, clockLimit};
 ghost use Rattle.sound.specs.Request.{isInRange, requestVerdict, transferOf};
 ghost use Rattle.sound.specs.Sound.{isBlank, isInTime, isSound, soundStore};
-ghost use Rattle.sound.specs.inner.Tables.{membersAt, AreMembers, AreSeats, channelAt, grantFits, ownerFits, requestAt, areBlank, restFits, areOpenSound, requestsFit, areMarked, askedFits};
+ghost use Rattle.sound.specs.inner.Tables.{membersAt, AreMembers, AreSeats, channelAt, grantFits, ownerFits, requestAt};
+ghost use Rattle.sound.specs.inner.Tables.{areBlank, restFits, areOpenSound, requestsFit, areMarked, askedFits};
 
 // Length, direction and space of a request are in range.
 fn is_in_range(request: Request) -> bool

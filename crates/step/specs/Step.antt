@@ -144,7 +144,8 @@ slaveAfterCarry c slave master = cond (carryFits c (length slave) (length master
 unfoldable pub masterAfterCarry : Carry → List ℕ → List ℕ → List ℕ
 masterAfterCarry c slave master = cond (carryFits c (length slave) (length master)) (movedMaster c slave master) master
 
--- For the laws only, from here on. What a step that is not refused by 9 or 8 may rely on: the set-up keeps the frame, the channel is sound, the stores have the set-up's lengths
+-- For the laws only, from here on. What a step that is not refused by 9 or 8 may rely on: the set-up keeps the frame, the channel is sound, the stores
+-- have the set-up's lengths
 pub record Ready (setup : Setup) (ch : Channel) (s m : ℕ) : Type 0 where
   pub framed : isFramed setup ≡ true
   pub sound : isSound setup ch ≡ true

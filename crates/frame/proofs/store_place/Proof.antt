@@ -10,7 +10,8 @@ use Rattle.frame.proofs.store_place.Tie as tie
 sub-t8 : tie.Need-sub-t8
 sub-t8 c =
     let a = c .before .before .before .before .before .args in
-    slave-found (a .slaves) (a .space) (a .address) 1 _ _ (sym (c .before .before .before .before .slave-row .ensures .0) ∙ c .before .before .found .given .1) .range .begins
+    slave-found (a .slaves) (a .space) (a .address) 1 _ _
+    (sym (c .before .before .before .before .slave-row .ensures .0) ∙ c .before .before .found .given .1) .range .begins
 
 add-t10 : tie.Need-add-t10
 add-t10 c = omega (arith, rw (c .before .before .found .given .1) at (c .before .before .before .before .slave-row .ensures .1))

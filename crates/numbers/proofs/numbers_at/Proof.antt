@@ -1,3 +1,4 @@
+use Rattle.basics.specs.Limits.{numbersMost}
 use Rattle.numbers.specs.Numbers.{numberAt, taken, numbersAt}
 use Prim.Native.Nat.{ℕ, min}
 use borrow.Author.Needs.{needs}
@@ -17,14 +18,14 @@ returns : tie.Need-returns
 unfolding numbersAt
 returns c =
     let a = c .before .before .before .before .args in
-    let few : a .n ≡ min (a .n) 6 = omega arith in
+    let few : a .n ≡ min (a .n) numbersMost = omega arith in
     c .take-numbers .ensures ∙ ap (λ (k : ℕ). taken (numberAt (a .listed) (now (a .bytes)) (now (a .list))) k (a .at)) few
 
 returns-2 : tie.Need-returns-2
 unfolding numbersAt
 returns-2 c =
     let a = c .before .before .before .before .args in
-    let few : 6 ≡ min (a .n) 6 = omega arith in
+    let few : numbersMost ≡ min (a .n) numbersMost = omega arith in
     c .take-numbers2 .ensures ∙ ap (λ (k : ℕ). taken (numberAt (a .listed) (now (a .bytes)) (now (a .list))) k (a .at)) few
 
 pub numbers-at-spec : {M : Type 1} → statement M

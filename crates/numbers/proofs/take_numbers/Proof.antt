@@ -1,4 +1,5 @@
 -- The loop's invariant: what is left to read, after what was kept, is what the whole gives.
+use Rattle.basics.specs.Limits.{numbersMost}
 use Prim.Native.Nat.{suc, _+_, _-_, _≤_}
 use Rattle.numbers.proofs.Laws.{passed-on, passed-fault, stored-on, numbers-end, taken-is}
 use Rattle.numbers.specs.Numbers.{passed, numbers}
@@ -17,7 +18,7 @@ abbrev Inv-loop : tie.InvT-loop
 Inv-loop bytes list listed n at values₀ i₀ place₀ values i place =
     (i ≤ n) × (passed (numberAt listed bytes list) (n - i) place ≡ passed (numberAt listed bytes list) n at)
     × (sets values i (numbers (numberAt listed bytes list) (n - i) place) ≡ padded (numbers (numberAt listed bytes list) n at))
-    × (length values ≡ 6)
+    × (length values ≡ numbersMost)
 
 abbrev μ-loop : tie.MeasureT-loop
 μ-loop bytes list listed n at values₀ i₀ place₀ values i place = n - i

@@ -70,7 +70,8 @@ head c = c .before .before .before .before .before .before .before .before .befo
 
 -- the request of a level whose slave row was found is sound as the rest of it is
 held : (c : tie.After-is-rest-sound Inv-loop μ-loop)
-    → openSound (start c .args .setup) (getD (now (start c .args .present)) (head c .loop .level) false) (head c .loop .level) (rests (start c) (head c .loop .level))
+    → openSound (start c .args .setup) (getD (now (start c .args .present)) (head c .loop .level) false) (head c .loop .level)
+    (rests (start c) (head c .loop .level))
     ≡ c .is-rest-sound .result
 held c =
     let five = c .before .before .before .before .before in

@@ -5,7 +5,8 @@ use Rattle.tally.proofs.add_cycle.Tie as tie
 
 returns : tie.Need-returns
 unfolding addCycle
-returns c = rw (c .larger-of .ensures, c .before .ending-figure .ensures, c .before .before .add-capped2 .ensures, c .before .before .before .add-capped .ensures)
+returns c =
+    rw (c .larger-of .ensures, c .before .ending-figure .ensures, c .before .before .add-capped2 .ensures, c .before .before .before .add-capped .ensures)
 
 pub add-cycle-spec : {M : Type 1} → statement M
 add-cycle-spec =

@@ -80,7 +80,8 @@ returns-2 c =
     rw (slots .0, slots .1 .0, slots .1 .1 .0, slots .1 .1 .1 .0, slots .1 .1 .1 .1)
     (log-done (a .route) (a .log) (a .inactive .now) (a .direction .now) (a .space .now) (a .address .now) (a .left .now)
     (a .offset .now) (a .slave .now) (a .master .now) (a .out .now) _ (p .0) _ (twenty-five .before .before .before .slot-at .ensures)
-    _ _ (d .0) (d .1) _ _ (k .0, k .1) _ _ _ (five .before .answer .given .1) (c .before .before .before .put-entry .ensures .0) (c .before .before .before .put-entry .ensures .1))
+    _ _ (d .0) (d .1) _ _ (k .0, k .1) _ _ _ (five .before .answer .given .1)
+    (c .before .before .before .put-entry .ensures .0) (c .before .before .before .put-entry .ensures .1))
 
 pub log-step-spec : {M : Type 1} → statement M
 log-step-spec =

@@ -1,6 +1,6 @@
 use borrow.Author.Needs.{needs}
-use Rattle.frame.proofs.bad_rows.Statement.{statement}
-use Rattle.frame.proofs.bad_rows.Tie as tie
+use Rattle.sheet.proofs.bad_rows.Statement.{statement}
+use Rattle.sheet.proofs.bad_rows.Tie as tie
 
 returns : tie.Need-returns
 returns c = rw (c .enum-told .given .1)
