@@ -16,7 +16,15 @@ use Rattle.frame.specs.declared.Setup.{Setup}
 use Rattle.frame.specs.declared.RowKind.{RowKind}
 use Rattle.frame.specs.declared.RowKind.the-variants.{Levels, Slaves}
 use Rattle.frame.specs.Frame.{noLevel, noSlave, levelAt, slaveAt, levelRowFits, isRising, isLastFifteen, slaveRowFits, isApart, areApart, lengthsBefore}
-use Rattle.frame.specs.Kind.{levelFrom, slaveFrom, withCount, putRow, rowFits}
+use Rattle.frame.specs.Kind.{rowSize, levelFrom, slaveFrom, noRows, withCount, rowCount, putRow, rowFits}
+
+-- what holds of each kind, and that they are two
+pub by-kind : (P : RowKind → Type 0) → P Levels → P Slaves → (kind : RowKind) → P kind
+by-kind P levels slaves Levels = levels
+by-kind P levels slaves Slaves = slaves
+
+pub other-kind : Slaves ≡ Levels → ⊥
+other-kind e = let z : _≡_ {A = ℕ} 5 3 = ap rowSize e in omega arith
 
 pub put-none : (setup : Setup) (kind : RowKind) (i : ℕ) (row : List ℕ) → length (setup .levels .rows) ≤ i → length (setup .slaves .rows) ≤ i
     → putRow setup kind i row ≡ setup
@@ -28,11 +36,6 @@ pub put-alike : (setup : Setup) (kind : RowKind) (i : ℕ) (a b : List ℕ) → 
     → putRow setup kind i a ≡ putRow setup kind i b
 put-alike setup Levels i a b same = rw (same 0, same 1, same 2)
 put-alike setup Slaves i a b same = rw (same 0, same 1, same 2, same 3, same 4)
-
--- how many rows of a kind there are
-abbrev pub rowCount : Setup → RowKind → ℕ
-rowCount setup Levels = setup .levels .count
-rowCount setup Slaves = setup .slaves .count
 
 -- the count stays where a row is put, and is the one that was given
 pub put-count : (setup : Setup) (kind : RowKind) (i : ℕ) (row : List ℕ) → rowCount (putRow setup kind i row) kind ≡ rowCount setup kind
@@ -81,6 +84,9 @@ pub record Wide (setup : Setup) : Type 0 where
   pub levels : length (setup .levels .rows) ≡ rowsMost
   pub slaves : length (setup .slaves .rows) ≡ rowsMost
 
+pub no-rows-wide : Wide noRows
+no-rows-wide = record { levels = refl; slaves = refl }
+
 pub put-wide : (setup : Setup) (kind : RowKind) (i : ℕ) (row : List ℕ) → Wide setup → Wide (putRow setup kind i row)
 put-wide setup Levels i row w = record { levels = simp length-set (w .levels); slaves = w .slaves }
 put-wide setup Slaves i row w = record { levels = w .levels; slaves = simp length-set (w .slaves) }
@@ -94,14 +100,22 @@ abbrev pub HasRow : Setup → RowKind → ℕ → List ℕ → Type 0
 HasRow setup Levels j row = levelAt (setup .levels) j ≡ levelFrom row
 HasRow setup Slaves j row = slaveAt (setup .slaves) j ≡ slaveFrom row
 
+pub count-has : (setup : Setup) (kind : RowKind) (count j : ℕ) (row : List ℕ) → HasRow setup kind j row → HasRow (withCount setup kind count) kind j row
+count-has setup Levels count j row e = e
+count-has setup Slaves count j row e = e
+
 pub put-has : (setup : Setup) (kind : RowKind) (i : ℕ) (row : List ℕ) → Wide setup → i < rowsMost → HasRow (putRow setup kind i row) kind i row
 put-has setup Levels i row w h = getD-set-same (setup .levels .rows) i (levelFrom row) noLevel (omega (arith, w .levels))
 put-has setup Slaves i row w h = getD-set-same (setup .slaves .rows) i (slaveFrom row) noSlave (omega (arith, w .slaves))
 
+pub put-apart : (setup : Setup) (kind : RowKind) (i j : ℕ) (row other : List ℕ) → (j ≡ i → ⊥) → HasRow setup kind j other
+    → HasRow (putRow setup kind i row) kind j other
+put-apart setup Levels i j row other n e = getD-set-other (setup .levels .rows) i j (levelFrom row) noLevel n ∙ e
+put-apart setup Slaves i j row other n e = getD-set-other (setup .slaves .rows) i j (slaveFrom row) noSlave n ∙ e
+
 pub put-keeps : (setup : Setup) (kind : RowKind) (i j : ℕ) (row other : List ℕ) → j < i → HasRow setup kind j other
     → HasRow (putRow setup kind i row) kind j other
-put-keeps setup Levels i j row other h e = level-kept (setup .levels) i j (levelFrom row) h ∙ e
-put-keeps setup Slaves i j row other h e = slave-kept (setup .slaves) i (slaveFrom row) j h ∙ e
+put-keeps setup kind i j row other h e = put-apart setup kind i j row other (omega arith) e
 
 -- the rows of one kind are those of another set-up
 abbrev pub SameRows : Setup → Setup → RowKind → Type 0

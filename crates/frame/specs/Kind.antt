@@ -46,6 +46,11 @@ abbrev pub withCount : Setup → RowKind → ℕ → Setup
 withCount setup Levels count = withLevels setup (record { rows = setup .levels .rows; count = count })
 withCount setup Slaves count = withSlaves setup (record { rows = setup .slaves .rows; count = count })
 
+-- how many rows of a kind there are
+abbrev pub rowCount : Setup → RowKind → ℕ
+rowCount setup Levels = setup .levels .count
+rowCount setup Slaves = setup .slaves .count
+
 -- a row's numbers put at its index
 abbrev pub putRow : Setup → RowKind → ℕ → List ℕ → Setup
 putRow setup Levels i row = withLevels setup (record { rows = set (setup .levels .rows) i (levelFrom row); count = setup .levels .count })

@@ -2,10 +2,10 @@
 // byte says that another follows; only the shortest form is valid.
 use refusal::Refusal;
 ghost use mathlib.Core.Path.{_≡_};
-ghost use Prim.Native.Nat.{_+_, _≤_};
+ghost use Prim.Native.Nat.{_+_, _≤_, _<_};
 ghost use lib.ListN.{drop, length};
 ghost use lib.Seq.{sets};
-ghost use Rattle.number.specs.Number.{groups, readNumber, top, Below, bytesOf, writeNumber, writeNumberAfter, numberSize};
+ghost use Rattle.number.specs.Number.{groups, below, readNumber, bytesOf, writeNumber, writeNumberAfter, numberSize};
 
 // What stands at a place: a value and the place past it, or why there is no number, and the place where it starts.
 pub enum NumberRead {
@@ -19,50 +19,51 @@ pub enum NumberWritten {
     Refused(Refusal),
 }
 
-// The groups from `at` on of a number that starts at `start`; as many as `left` may follow the first of them.
-fn groups_at(s: &[u8], start: usize, at: usize, left: u8) -> NumberRead
-    requires { ⌜ left ≤ 4 ⌝ }
-    ensures { λ r. ⌜ r ≡ groups start left at (drop at (now (s .entry))) ⌝ }
-    ensures { λ r. ⌜ Below (top left) r ⌝ }
+// The groups after the first of a number that starts at `start`; `first` is the value of its first group.
+fn more_groups(s: &[u8], start: usize, first: u32) -> NumberRead
+    requires { ⌜ start < length (now s) ⌝ }
+    requires { ⌜ first < 128 ⌝ }
+    ensures { λ r. ⌜ r ≡ below start first (groups start 3 (start + 1) (drop (start + 1) (now (s .entry)))) ⌝ }
 {
-    if s.len() <= at {
-        return NumberRead::Refused(Refusal::SheetEnds, start);
-    }
-    let byte = s[at] as u32;
-    let next = at + 1;
-    if left == 0 {
-        if 15 < byte {
-            return NumberRead::Refused(Refusal::BadNumber, start);
-        }
-        return NumberRead::Number(byte, next);
-    }
-    if byte < 128 {
-        return NumberRead::Number(byte, next);
-    }
-    let above = groups_at(s, start, next, left - 1);
-    match above {
-        NumberRead::Number(v, end) => {
-            if v == 0 {
+    let mut at = start + 1;
+    // the value of the groups passed, and how many times the next one counts
+    let mut low = first;
+    let mut weight: u32 = 128;
+    while at < s.len() {
+        let byte = s[at] as u32;
+        // the fifth byte is the last, and has room for four bits
+        if weight == 268435456 {
+            if (15 < byte) | (byte == 0) {
                 return NumberRead::Refused(Refusal::BadNumber, start);
             }
-            NumberRead::Number(byte - 128 + 128 * v, end)
+            return NumberRead::Number(low + weight * byte, at + 1);
         }
-        NumberRead::Refused(why, place) => NumberRead::Refused(why, place),
+        if byte < 128 {
+            if byte == 0 {
+                return NumberRead::Refused(Refusal::BadNumber, start);
+            }
+            return NumberRead::Number(low + weight * byte, at + 1);
+        }
+        low += weight * (byte - 128);
+        weight *= 128;
+        at += 1;
     }
+    NumberRead::Refused(Refusal::SheetEnds, start)
 }
 
 // The number at a place.
 pub fn read_number(s: &[u8], at: usize) -> NumberRead
     ensures { λ r. ⌜ r ≡ readNumber (now (s .entry)) at ⌝ }
 {
-    // most numbers have one byte
-    if at < s.len() {
-        let byte = s[at];
-        if byte < 128 {
-            return NumberRead::Number(byte as u32, at + 1);
-        }
+    if s.len() <= at {
+        return NumberRead::Refused(Refusal::SheetEnds, at);
     }
-    groups_at(s, at, at, 4)
+    let byte = s[at] as u32;
+    // most numbers have one byte
+    if byte < 128 {
+        return NumberRead::Number(byte, at + 1);
+    }
+    more_groups(s, at, byte - 128)
 }
 
 // How many bytes a number takes.
@@ -104,6 +105,14 @@ pub fn write_number(out: &mut [u8], at: usize, v: u32) -> NumberWritten
     ensures { λ r. ⌜ r ≡ writeNumber (now (out .entry)) at v ⌝ }
     ensures { λ _. ⌜ now (out .exit) ≡ writeNumberAfter (now (out .entry)) at v ⌝ }
 {
+    // most numbers have one byte
+    if v < 128 {
+        if at < out.len() {
+            out[at] = v as u8;
+            return NumberWritten::Past(at + 1);
+        }
+        return NumberWritten::Refused(Refusal::NoRoom);
+    }
     let size = number_size(v);
     if out.len() < at {
         return NumberWritten::Refused(Refusal::NoRoom);

@@ -1,5 +1,5 @@
 -- Numbers in a row, one more at a time: where one more is due (`left` is one more than `k`), and where none is; their bytes from an index on. Assumes nothing.
-use Prim.Native.Nat.{ℕ, zero, suc, _+_, _-_, _≤_, _<_}
+use Prim.Native.Nat.{ℕ, zero, suc, _+_, _-_, _*_, _≤_, _<_}
 use mathlib.Core.Path.{_≡_, refl, sym, ap, _∙_}
 use mathlib.Core.Bool.{_&&_}
 use mathlib.Core.List.{List, [], _∷_, _++_}
@@ -11,6 +11,7 @@ use lib.Seq.{sets, sets-eq, drop-cons, getD-append-add, getD-drop}
 use lib.Dec.{leb, ltb}
 use borrow.Author.Tests.{ltb-true, ltb-false, leb-true}
 use Rattle.basics.specs.Limits.{numbersMost}
+use Rattle.basics.proofs.Arrays.{replicate-at}
 use Rattle.basics.proofs.Tests.{by-test, and-left, and-right}
 use Rattle.refusal.specs.declared.Refusal.{Refusal}
 use Rattle.refusal.specs.declared.Refusal.the-variants.{SheetEnds}
@@ -18,7 +19,7 @@ use Rattle.number.specs.declared.NumberRead.{NumberRead}
 use Rattle.number.specs.declared.NumberRead.the-variants.{Number, Refused as NoNumber}
 use Rattle.number.specs.declared.NumberWritten.the-variants.{Past, Refused as NotWritten}
 use Rattle.number.specs.Number.{bytesOf}
-use Rattle.number.proofs.Laws.{no-number}
+use Rattle.number.proofs.Laws.{no-number, bytes-most}
 use Rattle.numbers.specs.declared.Part.{Part}
 use Rattle.numbers.specs.declared.Part.the-variants.{Fault}
 use Rattle.numbers.specs.declared.Taken.{Taken}
@@ -102,11 +103,6 @@ pub numbers-most : (src : Source) (n at : ℕ) → length (numbers src n at) ≤
 numbers-most src zero at = omega arith
 numbers-most src (suc n) at = followed-most n (src at) (numbers src n) (numbers-most src n)
 
-zeros : (n i : ℕ) → _≡_ {A = ℕ} (getD (replicate n 0) i 0) 0
-zeros zero i = refl
-zeros (suc n) zero = refl
-zeros (suc n) (suc i) = zeros n i
-
 -- numbers keep their values in the six places; after them stands 0, as past a list's end
 pub padded-at : (row : List ℕ) (j : ℕ) → length row ≤ numbersMost → getD (padded row) j 0 ≡ getD row j 0
 padded-at row j h =
@@ -122,7 +118,7 @@ padded-at row j h =
     ap (λ (i : ℕ). getD (row ++ rest) i 0) (sym k)
     ∙ getD-append-add row rest (j - length row) 0
     ∙ getD-drop (length row) none (j - length row) 0
-    ∙ zeros numbersMost (length row + (j - length row))
+    ∙ replicate-at numbersMost (length row + (j - length row)) 0
     ∙ sym (List·getD-eq-default row 0 g)))
 
 -- what the judge reads, by its parts
@@ -142,7 +138,12 @@ pub size-on : (list : List ℕ) (i : ℕ) → i < length list
     → length (allBytes (drop i list)) ≡ length (bytesOf (getD list i 0)) + length (allBytes (drop (i + 1) list))
 size-on list i h = rw (bytes-on list i h) (length-append (bytesOf (getD list i 0)) (allBytes (drop (i + 1) list)))
 
-sets-append : (a b out : List ℕ) (i : ℕ) → sets out i (a ++ b) ≡ sets (sets out i a) (i + length a) b
+-- a number has at most five bytes
+pub sizes-most : (list : List ℕ) → length (allBytes list) ≤ 5 * length list
+sizes-most [] = omega arith
+sizes-most (v ∷ list) = simp length-append (omega (arith, bytes-most v, sizes-most list))
+
+pub sets-append : (a b out : List ℕ) (i : ℕ) → sets out i (a ++ b) ≡ sets (sets out i a) (i + length a) b
 sets-append [] b out i = rw add-zero
 sets-append (x ∷ a) b out i =
     sets-append a b (set out i x) (suc i) ∙ ap (λ (k : ℕ). sets (sets (set out i x) (suc i) a) k b) (omega arith)

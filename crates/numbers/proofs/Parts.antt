@@ -13,6 +13,10 @@ use Rattle.numbers.specs.Numbers.{withNumber, andThen}
 pub no-good : {A : Type 0} {why : Refusal} {p end : ℕ} → Fault why p ≡ Good end → A
 no-good e = let z : _≡_ {A = ℕ} 0 1 = cc in absurd (omega arith)
 
+-- what holds at the end of a good part
+pub at-good : (P : ℕ → Type 0) {at : ℕ} → P at → (end : ℕ) → Good at ≡ Good end → P end
+at-good P {at} h end e = let same : at ≡ end = cc in rw (← same) h
+
 pub with-good : (got : NumberRead) (f : ℕ → ℕ → Part) {end : ℕ} → withNumber got f ≡ Good end
     → (v : ℕ) × (next : ℕ) × (got ≡ Number v next) × (f v next ≡ Good end)
 with-good (Number v next) f e = (v, next, refl, e)

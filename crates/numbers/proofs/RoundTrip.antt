@@ -32,7 +32,8 @@ Numbers list = (i : ℕ) → getD list i 0 < 4294967296
 unfoldable pub place : List ℕ → ℕ → ℕ
 place list i = length (allBytes (take i list))
 
-all-append : (x y : List ℕ) → allBytes (x ++ y) ≡ allBytes x ++ allBytes y
+-- the bytes of two lists, one after the other
+pub all-append : (x y : List ℕ) → allBytes (x ++ y) ≡ allBytes x ++ allBytes y
 all-append [] y = refl
 all-append (v ∷ x) y = rw (all-append x y) (sym (append-assoc (bytesOf v) (allBytes x) (allBytes y)))
 

@@ -7,6 +7,7 @@ use refusal::Refusal;
 ghost use mathlib.Core.Path.{_≡_};
 ghost use Prim.Native.Nat.{_+_, _≤_};
 ghost use lib.ListN.{length};
+ghost use lib.Dec.{leb};
 ghost use lib.Seq.{sets};
 ghost use Rattle.basics.specs.Limits.{numbersMost};
 ghost use Rattle.numbers.specs.Numbers.{numberAt, lengthOf, numberBetween, taken, numbersAt};
@@ -169,9 +170,20 @@ pub fn bytes_size(list: &[u32]) -> usize
     sum
 }
 
-// Puts the bytes of a list of numbers from a place of out on, where there is room for them.
-fn put_numbers(list: &[u32], out: &mut [u8], at: usize)
+// Whether so much room is enough for the bytes of a list of numbers. A number has five at most: sizes are added up only where there is less for each.
+fn have_room(list: &[u32], room: usize) -> bool
+    ensures { λ r. ⌜ r ≡ leb (length (allBytes (now (list .entry)))) room ⌝ }
+{
+    if list.len() <= room / 5 {
+        return true;
+    }
+    bytes_size(list) <= room
+}
+
+// Puts the bytes of a list of numbers from a place of out on, where there is room for them, and gives the place past them.
+fn put_numbers(list: &[u32], out: &mut [u8], at: usize) -> usize
     requires { ⌜ at + length (allBytes (now list)) ≤ length (now out) ⌝ }
+    ensures { λ r. ⌜ r ≡ at + length (allBytes (now (list .entry))) ⌝ }
     ensures { λ _. ⌜ now (out .exit) ≡ sets (now (out .entry)) at (allBytes (now (list .entry))) ⌝ }
 {
     let mut i: usize = 0;
@@ -184,10 +196,11 @@ fn put_numbers(list: &[u32], out: &mut [u8], at: usize)
                 i += 1;
             }
             NumberWritten::Refused(_) => {
-                return;
+                return place;
             }
         }
     }
+    place
 }
 
 // Writes the bytes of a list of numbers from a place of out on, all or none, and gives the place past them.
@@ -195,13 +208,12 @@ pub fn write_numbers(list: &[u32], out: &mut [u8], at: usize) -> NumberWritten
     ensures { λ r. ⌜ r ≡ writeNumbers (now (list .entry)) (now (out .entry)) at ⌝ }
     ensures { λ _. ⌜ now (out .exit) ≡ writeNumbersAfter (now (list .entry)) (now (out .entry)) at ⌝ }
 {
-    let size = bytes_size(list);
     if out.len() < at {
         return NumberWritten::Refused(Refusal::NoRoom);
     }
-    if out.len() - at < size {
-        return NumberWritten::Refused(Refusal::NoRoom);
+    if have_room(list, out.len() - at) {
+        let past = put_numbers(list, out, at);
+        return NumberWritten::Past(past);
     }
-    put_numbers(list, out, at);
-    NumberWritten::Past(at + size)
+    NumberWritten::Refused(Refusal::NoRoom)
 }

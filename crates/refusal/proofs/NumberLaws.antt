@@ -14,7 +14,7 @@ numbersOf [] = []
 numbersOf (r ∷ rest) = refusalNumber r ∷ numbersOf rest
 
 -- the numbers of the table, each once and in its order
-pub in-order : numbersOf refusals ≡ 1 ∷ 2 ∷ 3 ∷ 4 ∷ 5 ∷ 6 ∷ 7 ∷ 8 ∷ 9 ∷ 10 ∷ 11 ∷ 12 ∷ 13 ∷ 14 ∷ 15 ∷ 16 ∷ 17 ∷ []
+pub in-order : numbersOf refusals ≡ 1 ∷ 2 ∷ 3 ∷ 4 ∷ 5 ∷ 6 ∷ 7 ∷ 8 ∷ 9 ∷ 10 ∷ 11 ∷ 12 ∷ 13 ∷ 14 ∷ 15 ∷ 16 ∷ 17 ∷ 18 ∷ []
 in-order = refl
 
 -- a refusal is the one that its number names
@@ -36,6 +36,7 @@ by-number refusal.BadSlaves = refl
 by-number refusal.BadEvents = refl
 by-number refusal.Follows = refl
 by-number refusal.NoRoom = refl
+by-number refusal.Malformed = refl
 
 pub one-number : (a b : Refusal) → refusalNumber a ≡ refusalNumber b → a ≡ b
 one-number a b e = sym (by-number a) ∙ (ap refusalBy e ∙ by-number b)

@@ -25,15 +25,16 @@ use Rattle.frame.specs.declared.RowKind.{RowKind}
 use Rattle.frame.specs.declared.RowKind.the-variants.{Levels, Slaves}
 use Rattle.frame.specs.declared.LevelRows.{LevelRows}
 use Rattle.frame.specs.Frame.{levelAt, slaveAt, isRowCount, isMasterLength, levelsFit, slavesFit, isFramed}
-use Rattle.frame.specs.Kind.{rowSize, levelFrom, slaveFrom, noRows, withCount, putRow, rowFits}
+use Rattle.frame.specs.Kind.{rowSize, levelFrom, slaveFrom, noRows, withCount, rowCount, putRow, rowFits}
 use Rattle.frame.proofs.KindLaws.{
-  rowCount,
+  other-kind,
   Wide,
   HasRow,
   SameRows,
   steady,
   counted,
   put-count,
+  no-rows-wide,
   put-wide,
   count-wide,
   put-has,
@@ -49,9 +50,6 @@ use Rattle.sheet.specs.Sheet.{badRows, rowsRead, rowsFrom, countedRows, head, h
 use Rattle.sheet.proofs.Calls.{read-list}
 use Rattle.sheet.proofs.Parts.{sheet-parts, head-parts, then-rows-good, with-rows-good}
 use Rattle.sheetlist.specs.Held.{setupOf, eventsFrom}
-
-other-kind : Slaves ≡ Levels → ⊥
-other-kind e = let z : _≡_ {A = ℕ} 5 3 = ap rowSize e in omega arith
 
 good-one : {a b : ℕ} → Good a ≡ Good b → a ≡ b
 good-one e = cc
@@ -173,9 +171,6 @@ module _ (list : List ℕ) where
     slave-rows : Section Slaves levels second (eventsFrom list) (headOf list .setup)
     events-good : countedEvents (listAt list) (eventsFrom list) ≡ Good end
     whole : length list ≤ end
-
-  no-rows-wide : Wide noRows
-  no-rows-wide = record { levels = refl; slaves = refl }
 
   places : {end : ℕ} → sheet (listAt list) (length list) ≡ Good end → Places end
   unfolding eventsFrom headOf

@@ -1,6 +1,6 @@
 -- A valid sheet has at most 31,960 bytes. A level row has 3; a slave row 10, and one more where its length has three
 -- bytes, which at most three of sixteen rows can have; an event at most 31. Assumes nothing.
-use Prim.Native.Nat.{ℕ, zero, suc, _+_, _*_, _/_, _≤_, _<_}
+use Prim.Native.Nat.{ℕ, zero, suc, _+_, _*_, _≤_, _<_}
 use mathlib.Core.Path.{_≡_, refl, ap, _∙_}
 use mathlib.Core.Bool.{true}
 use mathlib.Core.List.{List}
@@ -11,8 +11,9 @@ use lib.Dec.{ltb}
 use Rattle.basics.specs.Limits.{rowsMost, storeMost}
 use Rattle.basics.proofs.Tests.{by-test}
 use Rattle.cycle.proofs.Widths.{width-some, port-some}
-use Rattle.number.specs.Number.{shortest, bytesOf, readNumber, Bytes}
-use Rattle.number.proofs.Laws.{size-last, size-more, bytes-most}
+use Rattle.number.specs.Number.{bytesOf, readNumber, Bytes}
+use Rattle.number.proofs.Laws.{bytes-most}
+use Rattle.number.proofs.SizeLaws.{tops, size-below}
 use Rattle.frame.specs.declared.SlaveRow.{SlaveRow}
 use Rattle.frame.specs.Frame.{slaveAt, rowsPresent, lengthsBefore, levelsFit, slavesFit}
 use Rattle.frame.specs.Find.{slaveStoreLength}
@@ -35,20 +36,6 @@ use Rattle.sheetlist.proofs.HeldLaws.{listed-at, listed-first}
 use Rattle.sheetlist.proofs.Framed.{Indexed, levelCount, slavesFrom, slaveCount, indexed, setup-framed}
 use Rattle.sheetlist.proofs.EventLaws.{event-each, few-events, events-end, next-steps, next-post}
 
--- 128, 16,384, ..: a number below it has at most 1, 2, .. bytes
-abbrev tops : ℕ → ℕ
-tops zero = 128
-tops (suc j) = 128 * tops j
-
-small : (j k v : ℕ) → v < tops j → j ≤ k → length (shortest k v) ≤ j + 1
-small zero k v h l = omega (arith, size-last k v h)
-small (suc j) zero v h l = absurd (omega arith)
-small (suc j) (suc k) v h l =
-    by-test (ltb v 128)
-    (λ t. omega (arith, size-last (suc k) v (ltb-true v 128 t)))
-    (λ f.
-    omega (arith, size-more k v (length (shortest k (v / 128))) (ltb-false v 128 f) refl, small j k (v / 128) (omega arith) (omega arith)))
-
 module _ (list : List ℕ) where
   -- one number on in the bytes: at most five, and fewer for a small number
   grows-any : (i next : ℕ) → next ≡ i + 1 → place list next ≤ place list i + length (bytesOf (getD list i 0))
@@ -61,8 +48,7 @@ module _ (list : List ℕ) where
       omega (arith, place-end list i h, place-end list next k))
 
   grows : (j i next : ℕ) → j ≤ 4 → next ≡ i + 1 → getD list i 0 < tops j → place list next ≤ place list i + (j + 1)
-  unfolding bytesOf
-  grows j i next l e v = omega (arith, grows-any i next e, small j 4 (getD list i 0) v l)
+  grows j i next l e v = omega (arith, grows-any i next e, size-below j (getD list i 0) l v)
 
   grows-five : (i next : ℕ) → next ≡ i + 1 → place list next ≤ place list i + 5
   grows-five i next e = omega (arith, grows-any i next e, bytes-most (getD list i 0))

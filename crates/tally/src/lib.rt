@@ -6,6 +6,7 @@ use act::Hold;
 ghost use mathlib.Core.Path.{_≡_};
 ghost use Rattle.tally.specs.Tally.{noTally, addCapped, largerOf, holdFigure, endingFigure, addGrant, addCycle, addRelease, addEntry};
 
+#[repr(C)]
 pub struct Tally {
     pub grants: u32,
     pub cycles: u32,

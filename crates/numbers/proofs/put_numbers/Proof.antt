@@ -8,10 +8,12 @@ use denote.Ref.{now}
 use lib.ListN.{length, drop, getD}
 use lib.Seq.{sets}
 use mathlib.Core.Path.{_≡_, refl, sym, ap, _∙_}
-use mathlib.Core.Path.{_≡_}
 use native.Mathlib.Omega.{arith}
 use Rattle.numbers.proofs.put_numbers.Statement.{statement}
 use Rattle.numbers.proofs.put_numbers.Tie as tie
+use Rattle.numbers.proofs.put_numbers.Reads as reads
+use Rattle.numbers.proofs.put_numbers.Lts as lts
+use Rattle.number.proofs.write_number.Reads as write-number-reads
 
 abbrev Inv-loop : tie.InvT-loop
 Inv-loop list out₀ start i₀ at₀ out i at =
@@ -43,8 +45,9 @@ loop-again c =
       five .write-number .kept .0 ∙ l .inv .3,
     )
 
-same-length : tie.Need-same-length Inv-loop μ-loop
-same-length c =
+-- there is room, so that no write is refused
+never : {A : Type 0} → lts.After-enum-told (write-number-reads.Asked, write-number-reads.Learnt) reads.Pre reads.Post Inv-loop μ-loop → A
+never c =
     let five = c .before .before .before .before .before in
     let ten = five .before .before .before .before .before in
     let a = ten .before .args in
@@ -55,26 +58,20 @@ same-length c =
     let w = written (l .out) (l .place) v (omega (arith, size-on list (l .i) h)) in
     no-room (sym (c .enum-told .given .1) ∙ c .before .before .before .before .write-number .ensures .0 ∙ w .0)
 
+same-length : tie.Need-same-length Inv-loop μ-loop
+same-length c = never c
+
 returns : tie.Need-returns Inv-loop μ-loop
-returns c =
-    let five = c .before .before .before .before .before in
-    let ten = five .before .before .before .before .before in
-    let a = ten .before .args in
-    let l = five .before .before .before .loop in
-    let list = now (a .list) in
-    let h : l .i < length list = omega arith in
-    let v = getD list (l .i) 0 in
-    let w = written (l .out) (l .place) v (omega (arith, size-on list (l .i) h)) in
-    no-room (sym (c .enum-told .given .1) ∙ c .before .before .before .before .write-number .ensures .0 ∙ w .0)
+returns c = never c
 
 same-length-2 : tie.Need-same-length-2 Inv-loop μ-loop
 same-length-2 c = c .before .loop .inv .3
 
 returns-2 : tie.Need-returns-2 Inv-loop μ-loop
 returns-2 c =
-    sym (ap (sets (c .before .loop .out) (c .before .loop .place))
-    (bytes-none (now (c .before .before .before .before .args .list)) (c .before .loop .i) (c .loop-test .left)))
-    ∙ c .before .loop .inv .2
+    let l = c .before .loop in
+    let none = bytes-none (now (c .before .before .before .before .args .list)) (l .i) (c .loop-test .left) in
+    (omega (arith, l .inv .1, ap length none), sym (ap (sets (l .out) (l .place)) none) ∙ l .inv .2)
 
 pub put-numbers-spec : {M : Type 1} → statement M
 put-numbers-spec =
