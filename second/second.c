@@ -1,17 +1,12 @@
-#include "second.h"
+#include "inside.h"
 
 #include <string.h>
 
 /*
- * The step is written once, as small functions, and used by mc_step and both
- * runs.  A run is fast when they all become part of its loop, so that the state
- * of the running tenure stays in registers; compilers need to be told.
+ * The step is written once, as small functions, and used by mc_step, both runs
+ * and the image.  A run is fast when they all become part of its loop, so that
+ * the state of the running tenure stays in registers.
  */
-#if defined(__GNUC__)
-#define INLINE static inline __attribute__((always_inline))
-#else
-#define INLINE static inline
-#endif
 
 INLINE uint32_t smaller(uint32_t a, uint32_t b)
 {
@@ -408,9 +403,8 @@ static enum mc_refusal check_channel(const struct mc_setup *setup, const struct 
     return mc_fits_frame(setup) && !mc_is_unsound(setup, channel) ? MC_OK : MC_UNSOUND;
 }
 
-/* Refusals 9 and 8. */
-static enum mc_refusal check_lent(const struct mc_setup *setup, const struct mc_channel *channel,
-                                  const struct mc_stores *stores)
+enum mc_refusal mc_check_step(const struct mc_setup *setup, const struct mc_channel *channel,
+                              const struct mc_stores *stores)
 {
     enum mc_refusal refusal = check_channel(setup, channel);
     if (refusal != MC_OK)
@@ -419,6 +413,15 @@ static enum mc_refusal check_lent(const struct mc_setup *setup, const struct mc_
         || stores->master_length != setup->master_length)
         return MC_STORE_DIFFERS;
     return MC_OK;
+}
+
+enum mc_refusal mc_check_run(const struct mc_setup *setup, const struct mc_channel *channel,
+                             const struct mc_stores *stores, uint32_t budget)
+{
+    enum mc_refusal refusal = mc_check_step(setup, channel, stores);
+    if (refusal != MC_OK)
+        return refusal;
+    return budget > MC_STEPS_MAX ? MC_TOO_MANY_STEPS : MC_OK;
 }
 
 /* ---- The line rule ----------------------------------------------------- */
@@ -721,6 +724,19 @@ INLINE uint32_t cycle_bytes(const struct tenure *tenure)
                            [smaller(tenure->left, 4) - 1];
 }
 
+/* The bytes move at once or, where later is lent, are left to it. */
+INLINE void pass_bytes(struct tenure *tenure, uint32_t bytes, struct mc_move *later)
+{
+    if (later != NULL)
+        *later = (struct mc_move){.to = tenure->to, .from = tenure->from, .bytes = bytes};
+    else
+        copy_bytes(tenure->to, tenure->from, bytes);
+    tenure->from += bytes;
+    tenure->to += bytes;
+    tenure->address += bytes;
+    tenure->left -= bytes;
+}
+
 INLINE bool transfer_ended(const struct tenure *tenure)
 {
     return tenure->left == 0 || (tenure->address & (tenure->route.width - 1)) == 0;
@@ -740,7 +756,8 @@ INLINE bool owner_releases(const struct tenure *tenure, const struct bus *bus)
     return bus->clock + cycles * route->time > bus->asked + MC_PREEMPT_TIME;
 }
 
-INLINE enum mc_refusal run_cycle(struct engine *engine, struct mc_entry *entry)
+INLINE enum mc_refusal run_cycle(struct engine *engine, struct mc_entry *entry,
+                                 struct mc_move *later)
 {
     struct bus *bus = &engine->bus;
     struct tenure *tenure = &engine->tenure;
@@ -757,11 +774,7 @@ INLINE enum mc_refusal run_cycle(struct engine *engine, struct mc_entry *entry)
     entry->master_lane = tenure->address & (route->width - 1);
     entry->slave_lane = tenure->address & (route->port - 1);
 
-    copy_bytes(tenure->to, tenure->from, bytes);
-    tenure->from += bytes;
-    tenure->to += bytes;
-    tenure->address += bytes;
-    tenure->left -= bytes;
+    pass_bytes(tenure, bytes, later);
 
     /* Nothing is released inside a transfer. */
     if (transfer_ended(tenure) && owner_releases(tenure, bus)) {
@@ -776,12 +789,13 @@ INLINE enum mc_refusal run_cycle(struct engine *engine, struct mc_entry *entry)
 }
 
 /* One step; a refused one changes nothing. */
-INLINE enum mc_refusal advance(struct engine *engine, struct mc_entry *entry)
+INLINE enum mc_refusal advance(struct engine *engine, struct mc_entry *entry,
+                               struct mc_move *later)
 {
     if (engine->bus.owner_bit == 0)
         return arbitrate(engine, entry);
     if (engine->tenure.left != 0)
-        return run_cycle(engine, entry);
+        return run_cycle(engine, entry, later);
     give_way_or_idle(engine, entry);
     return MC_OK;
 }
@@ -840,22 +854,32 @@ enum mc_refusal mc_post(const struct mc_setup *setup, struct mc_channel *channel
     return MC_OK;
 }
 
+/* One step of a checked channel. */
+INLINE enum mc_refusal take_step(const struct mc_setup *setup, struct mc_channel *channel,
+                                 const struct mc_stores *stores, struct mc_entry *entry,
+                                 struct mc_move *later)
+{
+    struct engine engine;
+    struct routes routes;
+    load(&engine, setup, channel, stores, &routes);
+    enum mc_refusal refusal = advance(&engine, entry, later);
+    if (refusal == MC_OK)
+        save(&engine);
+    return refusal;
+}
+
 enum mc_refusal mc_step(const struct mc_setup *setup, struct mc_channel *channel,
                         const struct mc_stores *stores, struct mc_tally *tally,
                         struct mc_entry *entry)
 {
-    enum mc_refusal refusal = check_lent(setup, channel, stores);
+    enum mc_refusal refusal = mc_check_step(setup, channel, stores);
     if (refusal != MC_OK)
         return refusal;
 
-    struct engine engine;
-    struct routes routes;
     struct mc_entry made;
-    load(&engine, setup, channel, stores, &routes);
-    refusal = advance(&engine, &made);
+    refusal = take_step(setup, channel, stores, &made, NULL);
     if (refusal != MC_OK)
         return refusal;
-    save(&engine);
     if (tally != NULL)
         *tally = add_entry(*tally, &made);
     if (entry != NULL)
@@ -863,18 +887,28 @@ enum mc_refusal mc_step(const struct mc_setup *setup, struct mc_channel *channel
     return MC_OK;
 }
 
+enum mc_refusal mc_decide_step(const struct mc_setup *setup, struct mc_channel *channel,
+                               const struct mc_stores *stores, struct mc_entry *entry,
+                               struct mc_move *later)
+{
+    later->bytes = 0;
+    return take_step(setup, channel, stores, entry, later);
+}
+
+void mc_move_bytes(const struct mc_move *move)
+{
+    if (move->bytes != 0)
+        copy_bytes(move->to, move->from, move->bytes);
+}
+
 /* Both runs; watch is NULL or not at compile time, so the plain run makes no entries. */
 INLINE struct mc_run_result run(const struct mc_setup *setup, struct mc_channel *channel,
                               const struct mc_stores *stores, struct mc_tally *tally,
                               uint32_t budget, mc_watch *watch, void *context)
 {
-    struct mc_run_result result = {.refusal = check_lent(setup, channel, stores)};
+    struct mc_run_result result = {.refusal = mc_check_run(setup, channel, stores, budget)};
     if (result.refusal != MC_OK)
         return result;
-    if (budget > MC_STEPS_MAX) {
-        result.refusal = MC_TOO_MANY_STEPS;
-        return result;
-    }
 
     struct engine engine;
     struct routes routes;
@@ -882,7 +916,7 @@ INLINE struct mc_run_result run(const struct mc_setup *setup, struct mc_channel 
     struct mc_tally sum = tally != NULL ? *tally : (struct mc_tally){0};
     while (result.steps < budget) {
         struct mc_entry entry;
-        result.refusal = advance(&engine, &entry);
+        result.refusal = advance(&engine, &entry, NULL);
         if (result.refusal != MC_OK)
             break;
         result.steps++;
@@ -935,8 +969,6 @@ static void set_fault(struct judge *judge, enum mc_refusal refusal, size_t place
     judge->place = place;
 }
 
-enum { GROUPS_MAX = 5, LAST_GROUP_MAX = 0x0F, GROUP_BITS = 7, MORE = 0x80 };
-
 /* Reads a number of at most left bytes; gives the bytes it took, or 0 and the refusal. */
 static size_t decode(const uint8_t *bytes, size_t left, uint32_t *value, enum mc_refusal *refusal)
 {
@@ -965,17 +997,6 @@ static size_t encoded_length(uint32_t value)
         value >>= GROUP_BITS;
         length++;
     }
-    return length;
-}
-
-static size_t encode(uint32_t value, uint8_t *bytes)
-{
-    size_t length = 0;
-    while (value >= MORE) {
-        bytes[length++] = (uint8_t)(MORE | (value & (MORE - 1)));
-        value >>= GROUP_BITS;
-    }
-    bytes[length++] = (uint8_t)value;
     return length;
 }
 
@@ -1074,7 +1095,7 @@ static void judge_events(struct judge *judge)
 static struct mc_sheet_result judge_all(struct judge *judge, size_t capacity)
 {
     struct mc_setup setup = {0};
-    take_between(judge, 1, 1, MC_SHEET_EDITION);
+    take_between(judge, EDITION, EDITION, MC_SHEET_EDITION);
     judge_levels(judge, &setup);
     judge_slaves(judge, &setup);
     judge_events(judge);
@@ -1114,9 +1135,6 @@ struct mc_sheet_result mc_write_sheet(const uint32_t *list, size_t count, uint8_
         at += encode(list[i], sheet + at);
     return result;
 }
-
-/* In a valid list: the counts, and the rows after them. */
-enum { LEVEL_COUNT_AT = 1, LEVEL_FIELDS = 3, SLAVE_FIELDS = 5 };
 
 static const uint32_t *slave_count_of(const uint32_t *list)
 {

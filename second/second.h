@@ -50,7 +50,8 @@ enum mc_refusal {
     MC_SHEET_SLAVES = 14,
     MC_SHEET_EVENTS = 15,
     MC_SHEET_GOES_ON = 16,
-    MC_RESULT_SHORT = 17
+    MC_RESULT_SHORT = 17,
+    MC_MALFORMED = 18
 };
 
 /* ---- The set-up -------------------------------------------------------- */
@@ -239,7 +240,7 @@ struct mc_sheet_result mc_write_sheet(const uint32_t *list, size_t count, uint8_
  * mc_write_sheet accepts.
  */
 
-/* The set-up; the length of the master store isn't on the sheet. */
+/* The set-up, from the list's head alone; the length of the master store isn't on the sheet. */
 void mc_list_setup(const uint32_t *list, uint32_t master_length, struct mc_setup *setup);
 
 enum mc_event_kind { MC_EVENT_STEPS = 0, MC_EVENT_POST = 1 };
