@@ -1,0 +1,87 @@
+-- What an image says, by how its two parts were read; and a list of numbers laid at the start of a longer one. Assumes nothing.
+use Prim.Native.Nat.{ℕ, _+_, _*_, _≤_, _<_}
+use native.Mathlib.Nat.{zero-add}
+use mathlib.Core.Path.{_≡_, sym, ap, _∙_}
+use mathlib.Core.List.{List, _++_}
+use native.Mathlib.Omega.{arith}
+use borrow.Author.Tests.{lt-ltb, le-ltb}
+use lib.ListN.{length, take, drop, length-append}
+use lib.Seq.{sets, sets-eq, take-append-seam}
+use Rattle.refusal.specs.declared.Refusal.{Refusal}
+use Rattle.refusal.specs.declared.Verdict.the-variants.{Accepted}
+use Rattle.numbers.specs.declared.Part.the-variants.{Good, Fault}
+use Rattle.sheet.specs.declared.RowsRead.{RowsRead}
+use Rattle.image.specs.declared.ChannelRead.{ChannelRead}
+use Rattle.channel.specs.Channel.{freshChannel}
+use Rattle.number.specs.Number.{readNumber}
+use Rattle.number.specs.Number.{wholeAt, wholeAfter}
+use Rattle.number.specs.declared.NumberWritten.{NumberWritten}
+use Rattle.number.specs.declared.NumberWritten.the-variants.{Past, Refused as NotWritten}
+use Rattle.number.proofs.Laws.{whole}
+use Rattle.numbers.specs.Numbers.{allBytes, writeNumbers, writeNumbersAfter}
+use Rattle.numbers.proofs.Laws.{sets-append, sizes-most, past-is, no-room}
+use Rattle.image.specs.Read.{headAt, withMaster}
+use Rattle.image.specs.Image.{readSetup, readChannel, imaged, malformed, readImage, headRead}
+
+module _ (bytes : List ℕ) (n : ℕ) {head : RowsRead} (is : head ≡ readSetup bytes n) where
+  pub image-none : {why : Refusal} {p : ℕ} → head .part ≡ Fault why p → malformed ≡ readImage bytes n
+  unfolding readImage
+  image-none e = rw (← is, e)
+
+  module _ {start : ℕ} (e : head .part ≡ Good start) {rest : ChannelRead} (are : rest ≡ readChannel bytes n start) where
+    pub image-short : {why : Refusal} {p : ℕ} → rest .part ≡ Fault why p → malformed ≡ readImage bytes n
+    unfolding readImage
+    image-short f = rw (← is, e, ← are, f)
+
+    pub image-on : {end : ℕ} → rest .part ≡ Good end → imaged (head .setup) (rest .channel) Accepted ≡ readImage bytes n
+    unfolding readImage
+    image-on f = rw (← is, e, ← are, f)
+
+-- as many numbers as were laid are those that were laid
+pub laid-front : (out list : List ℕ) (count : ℕ) {after : List ℕ} → length list ≤ length out → count ≡ length list → after ≡ sets out 0 list
+    → take count after ≡ list
+laid-front out list count room e a =
+    rw (a, e) (ap (take (length list)) (sets-eq list out 0 (omega arith)) ∙ take-append-seam list (drop (0 + length list) out))
+
+-- two lists laid one after the other, and that the longer list has them at its start
+pub both-laid : (out a b : List ℕ) {mid count : ℕ} {upper after : List ℕ} → length a + length b ≤ length out → mid ≡ length a
+    → upper ≡ sets out 0 a → count ≡ mid + length b → after ≡ sets upper mid b → take count after ≡ a ++ b
+both-laid out a b {mid} {count} {upper} {after} room m u c l =
+    let size = length-append a b in
+    let place : mid ≡ 0 + length a = omega arith in
+    let laid : after ≡ sets out 0 (a ++ b) = l ∙ rw (u, place) (sym (sets-append a b out 0)) in
+    laid-front out (a ++ b) count (omega arith) (omega arith) laid
+
+-- the set-up of a head, by how its rows were read
+module _ (bytes : List ℕ) (master : ℕ) {rows : RowsRead} (is : rows ≡ headAt (readNumber bytes) 0) where
+  pub head-none : {why : Refusal} {p : ℕ} → rows .part ≡ Fault why p → malformed ≡ headRead bytes master
+  unfolding headRead
+  head-none e = rw (← is, e)
+
+  module _ {end : ℕ} (e : rows .part ≡ Good end) where
+    pub head-follows : end < length bytes → malformed ≡ headRead bytes master
+    unfolding headRead
+    head-follows h = rw (← is, e, lt-ltb end (length bytes) h)
+
+    pub head-on : length bytes ≤ end → imaged (withMaster (rows .setup) master) freshChannel Accepted ≡ headRead bytes master
+    unfolding headRead
+    head-on h = rw (← is, e, le-ltb end (length bytes) h)
+
+-- a short list is written whole into a long row of bytes
+module _ (list out : List ℕ) (room : 5 * length list ≤ length out) where
+  list-whole : (wholeAt out 0 (allBytes list) ≡ Past (0 + length (allBytes list))) × (wholeAfter out 0 (allBytes list) ≡ sets out 0 (allBytes list))
+  list-whole = whole out 0 (allBytes list) (omega (arith, sizes-most list))
+
+  pub list-none : {A : Type 0} {got : NumberWritten} {why : Refusal} → got ≡ writeNumbers list out 0 → got ≡ NotWritten why → A
+  unfolding writeNumbers
+  list-none is e = no-room (sym e ∙ is ∙ list-whole .0)
+
+  module _ {got : NumberWritten} {after : List ℕ} (is : got ≡ writeNumbers list out 0) (left : after ≡ writeNumbersAfter list out 0)
+      {n : ℕ} (e : got ≡ Past n) where
+    pub list-size : n ≡ length (allBytes list)
+    unfolding writeNumbers
+    list-size = past-is (sym e ∙ is ∙ list-whole .0) ∙ zero-add (length (allBytes list))
+
+    pub list-front : take n after ≡ allBytes list
+    unfolding writeNumbersAfter
+    list-front = laid-front out (allBytes list) n (omega (arith, sizes-most list)) list-size (left ∙ list-whole .1)

@@ -1,0 +1,14 @@
+pub mod TurnLaws
+pub mod MarkLaws
+pub mod LayLaws
+pub mod ImageLaws
+pub mod RowLaws
+pub mod Writable
+pub mod SetupSpelt
+pub mod ChannelSpelt
+pub mod WrittenBack
+pub mod SetupBack
+pub mod ChannelBack
+pub mod ReadBack
+pub mod LongestLaws
+pub mod LongestExample
