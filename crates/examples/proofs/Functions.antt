@@ -26,6 +26,8 @@ use Rattle.lent.proofs as lent
 use Rattle.logline.proofs as logline
 use Rattle.sheet.proofs as sheet
 use Rattle.sheetlist.proofs as sheetlist
+use Rattle.image.proofs as image
+use Rattle.lobrinkas.proofs as lobrinkas
 use Rattle.sheethost.proofs as sheethost
 use Rattle.examples.proofs.Unique as unique
 use Rattle.examples.proofs.Unique.{Contract, alone, only-lent, only-two, lent-one, lent-two, lent-three, besides}
@@ -309,4 +311,34 @@ module _ {M : Type 1} (𝓤 : URA M) (H : Heap 𝓤) (A : Atoms 𝓤) (mem : Mem
     λ κs a g. only-lent 𝓤 _ (λ ws. ws .0) (λ v w p i. (p i, tt)),
     λ κs a g. alone 𝓤 _ (λ v w. refl),
     λ κs a g. alone 𝓤 _ (λ v w. refl),
+  )
+
+  of-image : One image.read_setup.ended image.read_setup.clauses
+      × One image.read_channel.ended image.read_channel.clauses
+      × One image.read_image.ended image.read_image.clauses
+      × One image.write_channel.ended image.write_channel.clauses
+      × One image.write_image.ended image.write_image.clauses
+      × One image.read_head.ended image.read_head.clauses
+  of-image = (
+    λ κs a g. alone 𝓤 _ (λ v w. refl),
+    λ κs a g. alone 𝓤 _ (λ v w. refl),
+    λ κs a g. alone 𝓤 _ (λ v w. refl),
+    λ κs a g. lent-one 𝓤 _ _ (λ ws. ws .1 .0) (λ v w p i. (tt, (p i, (tt, tt)))),
+    λ κs a g. lent-one 𝓤 _ _ (λ ws. ws .1 .1 .0) (λ v w p i. (tt, (tt, (p i, tt)))),
+    λ κs a g. alone 𝓤 _ (λ v w. refl),
+  )
+
+  of-lobrinkas : One lobrinkas.lobrinkas_cycle_count.ended lobrinkas.lobrinkas_cycle_count.clauses
+      × One lobrinkas.lobrinkas_set_up.ended lobrinkas.lobrinkas_set_up.clauses
+      × One lobrinkas.lobrinkas_post.ended lobrinkas.lobrinkas_post.clauses
+      × One lobrinkas.lobrinkas_step.ended lobrinkas.lobrinkas_step.clauses
+      × One lobrinkas.lobrinkas_run.ended lobrinkas.lobrinkas_run.clauses
+  of-lobrinkas = (
+    λ κs a g. alone 𝓤 _ (λ v w. refl),
+    λ κs a g. lent-one 𝓤 _ _ (λ ws. ws .0) (λ v w p i. (p i, (tt, (tt, tt)))),
+    λ κs a g. lent-one 𝓤 _ _ (λ ws. ws .0) (λ v w p i. (p i, (tt, (tt, (tt, (tt, (tt, (tt, (tt, tt))))))))),
+    λ κs a g.
+        lent-three 𝓤 _ _ _ _ (λ ws. ws .0) (λ ws. ws .1 .1 .0) (λ ws. ws .1 .1 .1 .0) (λ v w p q r i. (p i, (tt, (q i, (r i, (tt, tt)))))),
+    λ κs a g.
+        lent-three 𝓤 _ _ _ _ (λ ws. ws .0) (λ ws. ws .1 .1 .0) (λ ws. ws .1 .1 .1 .0) (λ v w p q r i. (p i, (tt, (q i, (r i, (tt, (tt, tt))))))),
   )

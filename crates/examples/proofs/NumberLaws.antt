@@ -23,13 +23,14 @@ use Rattle.channel.specs.declared.Phase.{Phase}
 use Rattle.channel.specs.declared.Phase.the-variants.{Arbitrating, Granted}
 use Rattle.channel.specs.declared.Channel.{Channel}
 use Rattle.channel.specs.declared.Request.{Request}
-use Rattle.channel.specs.Channel.{Shaped, setUp, hasRequest, requestOf}
+use Rattle.channel.specs.Channel.{Shaped, freshChannel, setUp, hasRequest, requestOf}
 use Rattle.channel.specs.Line.{line, winner}
 use Rattle.channel.specs.Slave.{slaveOf}
 use Rattle.sound.specs.Request.{requestVerdict}
 use Rattle.frame.specs.declared.Order.{Order}
 use Rattle.post.specs.Post.{requestIn, postVerdict, postOf}
 use Rattle.act.specs.declared.Entry.{Entry}
+use Rattle.act.specs.declared.Entry.the-variants as entry
 use Rattle.act.specs.Cycle.{routeOf, cycleOf}
 use Rattle.act.specs.Turn.{arbitrationTime}
 use Rattle.logline.specs.Text.{hasRoomIn as lineRoom}
@@ -47,6 +48,32 @@ use Rattle.step.proofs.TurnLaws.{ready-next}
 use Rattle.numbers.specs.declared.Part.{Part}
 use Rattle.numbers.specs.declared.Part.the-variants.{Good, Fault}
 use Rattle.sheet.specs.Sheet.{answered, sheetNumbers}
+use Rattle.frame.specs.Frame.{isFramed}
+use Rattle.sound.specs.Sound.{isSound}
+use Rattle.number.specs.Number.{readNumber}
+use Rattle.numbers.specs.Numbers.{allBytes}
+use Rattle.image.specs.declared.Imaged.{Imaged}
+use Rattle.image.specs.Layout.{imageBytes, imageMost}
+use Rattle.image.specs.Read.{headAt}
+use Rattle.image.specs.Image.{thenImage, malformed, readSetup, readChannel, readImage, writeImage, headRead, readHead}
+use Rattle.lobrinkas.specs.Answers.{cycleStep, stepBy}
+use Rattle.lobrinkas.specs.Calls.{
+  Answered,
+  setUpBy,
+  answerBy,
+  lobrinkasSetUp,
+  postBy,
+  lobrinkasPost,
+  Stepping,
+  stepAnswered,
+  steppingBy,
+  lobrinkasStep,
+  RunAnswered,
+  runReady,
+  runAnsweredBy,
+  lobrinkasRun,
+}
+use Rattle.step.specs.declared.Stepped.{Stepped as Step}
 use Rattle.examples.specs.Numbers.{
   RefusalRow,
   firstNumber,
@@ -64,6 +91,15 @@ use Rattle.examples.specs.Numbers.{
   logRows,
   writtenTold,
   sheetTold,
+  isGoodThen,
+  malformedImage,
+  malformedHead,
+  imageTold,
+  noImageRoom,
+  setUpCallRows,
+  postCallRows,
+  stepCallRows,
+  runCallRows,
 }
 
 -- the numbers of the rows are numbers of the table
@@ -252,3 +288,142 @@ log-number setup budget w p k =
     by-test (otherLength setup (length (w .slave)) (length (w .master)) .1) (λ t. rw (f, t)) (λ g.
     by-test (ltb stepsMost budget) (λ t. rw (f, g, t)) (λ h.
     rw (f, g, h) (rw (zero-add budget) at (log-from setup budget 0 w p (ready-start setup w k (rw (f, g)))) .1))))
+
+-- an image
+
+-- a part that is at fault makes a malformed image, and one that is good hands on
+then-number : (j : Part) (f : ℕ → Imaged) (g : ℕ → Bool) → ((at : ℕ) → verdictNumber (f at .verdict) ≡ firstNumber ((18, not (g at)) ∷ []))
+    → verdictNumber (thenImage j f .verdict) ≡ firstNumber ((18, not (isGoodThen j g)) ∷ [])
+then-number (Good at) f g later = later at
+then-number (Fault why place) f g later = refl
+
+pub image-number : (bytes : List ℕ) (n : ℕ) → verdictNumber (readImage bytes n .verdict) ≡ firstNumber (malformedImage bytes n ∷ [])
+unfolding readImage
+image-number bytes n =
+    then-number (readSetup bytes n .part) _ _ (λ start. then-number (readChannel bytes n start .part) _ _ (λ end. refl))
+
+ended-number : (b : Bool) (i : Imaged) → verdictNumber (i .verdict) ≡ 0 → verdictNumber (cond b malformed i .verdict) ≡ firstNumber ((18, not (not b)) ∷ [])
+ended-number true i good = refl
+ended-number false i good = good
+
+pub head-number : (list : List ℕ) (master : ℕ) → verdictNumber (readHead list master .verdict) ≡ firstNumber (malformedHead list ∷ [])
+unfolding readHead headRead
+head-number list master =
+    then-number (headAt (readNumber (allBytes list)) 0 .part) _ _ (λ end. ended-number (ltb end (length (allBytes list))) _ refl)
+
+pub image-told : (setup : Setup) (ch : Channel) (out : List ℕ) → writingNumbers (writeImage setup ch out) ≡ imageTold setup ch out
+unfolding writeImage
+image-told setup ch out =
+    by-test (isFramed setup && isSound setup ch) (λ t. rw t (written-told out 0 (imageBytes setup ch))) (λ f. rw f)
+
+-- the calls for C
+
+-- a call over an image is refused by 18, or tells what is told of the plain call
+over-image : (told : Verdict → ℕ) → ((r : Refusal) → told (Refused r) ≡ refusalNumber r) → (v : Verdict) (bad : Bool) (rows : List RefusalRow)
+    → verdictNumber v ≡ firstNumber ((18, bad) ∷ []) → told Accepted ≡ firstNumber rows → told v ≡ firstNumber ((18, bad) ∷ rows)
+over-image told by Accepted true rows e rest = let z : _≡_ {A = ℕ} 0 18 = e in absurd (omega arith)
+over-image told by Accepted false rows e rest = rest
+over-image told by (Refused r) true rows e rest = by r ∙ e
+over-image told by (Refused r) false rows e rest = absurd (not-zero r e)
+
+-- rows of which one holds, and rows of which none does, before others
+rows-stay : (rows more : List RefusalRow) → (firstNumber rows ≡ 0 → ⊥) → firstNumber (rows ++ more) ≡ firstNumber rows
+rows-stay [] more some = absurd (some refl)
+rows-stay ((n, true) ∷ rows) more some = refl
+rows-stay ((n, false) ∷ rows) more some = rows-stay rows more some
+
+rows-pass : (rows more : List RefusalRow) → areNumbers rows ≡ true → firstNumber rows ≡ 0 → firstNumber (rows ++ more) ≡ firstNumber more
+rows-pass [] more are none = refl
+rows-pass ((n, true) ∷ rows) more are none =
+    absurd (not-zero (refusalBy n) (eqb-true _ n (and-left (eqb (refusalNumber (refusalBy n)) n) (areNumbers rows) are) ∙ none))
+rows-pass ((n, false) ∷ rows) more are none = rows-pass rows more (and-right (eqb (refusalNumber (refusalBy n)) n) (areNumbers rows) are) none
+
+-- where the plain call is accepted: 17, or no refusal
+room-number : (b : Bool) (x y : Answered) → x .result .refusal ≡ 0 → y .result .refusal ≡ 17 → cond b x y .result .refusal ≡ cond (not b) 17 0
+room-number true x y fits short = fits
+room-number false x y fits short = short
+
+answer-room : (setup : Setup) (ch : Channel) (image : List ℕ) (n : ℕ)
+    → answerBy Accepted setup ch image n .result .refusal ≡ firstNumber (noImageRoom setup ch image ∷ [])
+answer-room setup ch image n = room-number (leb (length (imageBytes setup ch)) (length image)) _ _ refl refl
+
+pub set-up-call-number : (image list : List ℕ) (master : ℕ)
+    → lobrinkasSetUp image list master .result .refusal ≡ firstNumber (setUpCallRows image list master)
+unfolding lobrinkasSetUp setUp
+set-up-call-number image list master =
+    let setup = readHead list master .setup in
+    over-image (λ v. setUpBy v setup image .result .refusal) (λ r. refl) (readHead list master .verdict) (malformedHead list .1)
+    (broken setup ∷ noImageRoom setup freshChannel image ∷ [])
+    (head-number list master)
+    (rows-told (λ v. answerBy v setup freshChannel image 0 .result .refusal) (λ r. refl) (broken setup ∷ []) (noImageRoom setup freshChannel image ∷ [])
+    Accepted refl (answer-room setup freshChannel image 0))
+
+pub post-call-number : (image : List ℕ) (n : ℕ) (p : Order) → lobrinkasPost image n p .result .refusal ≡ firstNumber (postCallRows image n p)
+unfolding lobrinkasPost postOf postVerdict requestVerdict
+post-call-number image n p =
+    let setup = readImage image n .setup in
+    let ch = readImage image n .channel in
+    let next = postOf setup ch p .channel in
+    over-image (λ v. postBy v setup ch p image n .result .refusal) (λ r. refl) (readImage image n .verdict) (malformedImage image n .1)
+    (postRows setup ch p ++ (noImageRoom setup next image ∷ []))
+    (image-number image n)
+    (rows-told (λ v. answerBy v setup next image n .result .refusal) (λ r. refl)
+    (unsound setup ch ∷ (1, not (isPresent (setup .levels) (p .level))) ∷ (2, hasRequest (ch .left) (p .level)) ∷ [])
+    (requestRows setup (requestIn p) ++ (noImageRoom setup next image ∷ []))
+    (requestVerdict setup (p .level) (requestIn p))
+    refl
+    (rows-told (λ v. answerBy v setup next image n .result .refusal) (λ r. refl) (requestRows setup (requestIn p)) (noImageRoom setup next image ∷ [])
+    Accepted refl (answer-room setup next image n)))
+
+entry-none : (e : Entry) (n : ℕ) (t : Tally) → stepBy e n t .refusal ≡ 0
+unfolding cycleStep
+entry-none (entry.Idle clock) n t = refl
+entry-none (entry.Grant clock owner) n t = refl
+entry-none (entry.Cycle c) n t = refl
+entry-none (entry.Release clock level hold) n t = refl
+
+step-room : (b : Bool) (x y : Stepping) → x .result .refusal ≡ 0 → y .result .refusal ≡ 17 → cond b x y .result .refusal ≡ cond (not b) 17 0
+step-room true x y fits short = fits
+step-room false x y fits short = short
+
+stepped-number : (a : StepAnswer) (setup : Setup) (ch : Channel) (step : Step) (t : Tally) (image : List ℕ) (n : ℕ) (slave master : List ℕ)
+    (rows : List RefusalRow) → areNumbers rows ≡ true → first (stepNumbers a) ≡ firstNumber rows
+    → stepAnswered a setup ch step t image n slave master .result .refusal ≡ firstNumber (rows ++ (noImageRoom setup (step .channel) image ∷ []))
+stepped-number (NotDone why) setup ch step t image n slave master rows are e =
+    e ∙ sym (rows-stay rows _ (λ z. not-zero why (e ∙ z)))
+stepped-number (Done entry) setup ch step t image n slave master rows are e =
+    step-room (leb (length (imageBytes setup (step .channel))) (length image)) _ _ (entry-none entry _ _) refl
+    ∙ sym (rows-pass rows (noImageRoom setup (step .channel) image ∷ []) are (sym e))
+
+pub step-call-number : (image : List ℕ) (n : ℕ) (slave master : List ℕ) (t : Tally)
+    → lobrinkasStep image n slave master t .result .refusal ≡ firstNumber (stepCallRows image n slave master t)
+unfolding lobrinkasStep
+step-call-number image n slave master t =
+    let setup = readImage image n .setup in
+    let ch = readImage image n .channel in
+    over-image (λ v. steppingBy v setup ch t image n slave master .result .refusal) (λ r. refl) (readImage image n .verdict) (malformedImage image n .1)
+    (stepRows setup ch (length slave) (length master) ++ (noImageRoom setup (stepOf setup ch t slave master .channel) image ∷ []))
+    (image-number image n)
+    (stepped-number (stepOf setup ch t slave master .answer) setup ch (stepOf setup ch t slave master) t image n slave master
+    (stepRows setup ch (length slave) (length master)) refl (step-number setup ch t slave master))
+
+run-room : (a b : Bool) (x y z : RunAnswered) → x .result .refusal ≡ 7 → y .result .refusal ≡ 0 → z .result .refusal ≡ 17
+    → cond a x (cond b y z) .result .refusal ≡ cond a 7 (cond (not b) 17 0)
+run-room true b x y z long fits short = long
+run-room false true x y z long fits short = fits
+run-room false false x y z long fits short = short
+
+pub run-call-number : (image : List ℕ) (n : ℕ) (slave master : List ℕ) (t : Tally) (budget : ℕ)
+    → lobrinkasRun image n slave master t budget .result .refusal ≡ firstNumber (runCallRows image n slave master budget)
+unfolding lobrinkasRun readyVerdict
+run-call-number image n slave master t budget =
+    let setup = readImage image n .setup in
+    let ch = readImage image n .channel in
+    let more : List RefusalRow = (7, ltb stepsMost budget) ∷ (17, not (leb imageMost (length image))) ∷ [] in
+    over-image (λ v. runAnsweredBy v setup ch t budget image n slave master .result .refusal) (λ r. refl) (readImage image n .verdict)
+    (malformedImage image n .1)
+    (unsound setup ch ∷ otherLength setup (length slave) (length master) ∷ more)
+    (image-number image n)
+    (rows-told (λ v. runReady v setup ch t budget image n slave master .result .refusal) (λ r. refl)
+    (unsound setup ch ∷ otherLength setup (length slave) (length master) ∷ []) more Accepted refl
+    (run-room (ltb stepsMost budget) (leb imageMost (length image)) _ _ _ refl refl refl))

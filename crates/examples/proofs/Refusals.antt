@@ -36,6 +36,15 @@ use Rattle.numbers.specs.declared.Taken.{Taken}
 use Rattle.numbers.specs.Numbers.{listAt, numberAt, numberBetween, numbersAt, partNumbers, numbersOf, allBytes, copyNumbers, writeNumbers}
 use Rattle.sheet.specs.declared.RowsRead.{RowsRead}
 use Rattle.sheet.specs.Sheet.{sheet as judged, headOf, readSheet, writeSheet, sheetNumbers}
+use Rattle.image.specs.declared.ChannelRead.{ChannelRead}
+use Rattle.image.specs.declared.Imaged.{Imaged}
+use Rattle.image.specs.Layout.{channelNumbers}
+use Rattle.image.specs.Image.{readSetup, readChannel, writeChannel}
+use Rattle.lobrinkas.specs.declared.Answer.{Answer}
+use Rattle.lobrinkas.specs.declared.Stepped.{Stepped as StepCall}
+use Rattle.lobrinkas.specs.declared.Ran.{Ran as RunCall}
+use Rattle.lobrinkas.specs.declared.Counted.{Counted as CountCall}
+use Rattle.lobrinkas.specs.Calls.{order}
 use Rattle.number.proofs as number
 use Rattle.numbers.proofs as numbers
 use Rattle.cycle.proofs as cycle
@@ -45,6 +54,8 @@ use Rattle.post.proofs as post
 use Rattle.step.proofs as step
 use Rattle.lent.proofs as lent
 use Rattle.sheet.proofs as sheet
+use Rattle.image.proofs as image
+use Rattle.lobrinkas.proofs as lobrinkas
 use Rattle.examples.specs.Numbers.{
   firstNumber,
   broken,
@@ -58,6 +69,13 @@ use Rattle.examples.specs.Numbers.{
   logRows,
   writtenTold,
   sheetTold,
+  malformedImage,
+  malformedHead,
+  imageTold,
+  setUpCallRows,
+  postCallRows,
+  stepCallRows,
+  runCallRows,
 }
 use Rattle.examples.proofs.Unique.{Contract}
 use Rattle.examples.proofs.NumberLaws.{
@@ -73,6 +91,13 @@ use Rattle.examples.proofs.NumberLaws.{
   log-number,
   written-told,
   sheet-told,
+  image-number,
+  head-number,
+  image-told,
+  set-up-call-number,
+  post-call-number,
+  step-call-number,
+  run-call-number,
 }
 
 module _ {M : Type 1} (𝓤 : URA M) (H : Heap 𝓤) (A : Atoms 𝓤) (mem : Memory → SProp 𝓤) (call : Routine → Fun 𝓤) where
@@ -236,3 +261,65 @@ module _ {M : Type 1} (𝓤 : URA M) (H : Heap 𝓤) (A : Atoms 𝓤) (mem : Mem
   of-write-sheet κs a g r ws =
       lent-one _ (λ (r : SheetAnswer). sheetNumbers r ≡ _)
       (sheet-told (judged (listAt (a .0 .now)) (length (a .0 .now))) (length (allBytes (a .0 .now))) (length (a .1 .0 .now))) r _
+
+  -- the parts of an image have the faults of `readSetup` and `readChannel`, with their places; an image as a whole has 18 for each of them
+  of-read-setup : Tells image.read_setup.ended image.read_setup.clauses
+      (λ κs a (r : RowsRead). partNumbers (r .part) ≡ partNumbers (readSetup (a .0 .now) (a .1 .0) .part))
+  of-read-setup κs a g r ws = alone _ (λ (r : RowsRead). partNumbers (r .part) ≡ _) refl r
+
+  of-read-channel : Tells image.read_channel.ended image.read_channel.clauses
+      (λ κs a (r : ChannelRead). partNumbers (r .part) ≡ partNumbers (readChannel (a .0 .now) (a .1 .0) (a .1 .1 .0) .part))
+  of-read-channel κs a g r ws = alone _ (λ (r : ChannelRead). partNumbers (r .part) ≡ _) refl r
+
+  of-read-image : Tells image.read_image.ended image.read_image.clauses
+      (λ κs a (r : Imaged). verdictNumber (r .verdict) ≡ firstNumber (malformedImage (a .0 .now) (a .1 .0) ∷ []))
+  of-read-image κs a g r ws = alone _ (λ (r : Imaged). verdictNumber (r .verdict) ≡ _) (image-number (a .0 .now) (a .1 .0)) r
+
+  of-read-head : Tells image.read_head.ended image.read_head.clauses
+      (λ κs a (r : Imaged). verdictNumber (r .verdict) ≡ firstNumber (malformedHead (a .0 .now) ∷ []))
+  of-read-head κs a g r ws = alone _ (λ (r : Imaged). verdictNumber (r .verdict) ≡ _) (head-number (a .0 .now) (a .1 .0)) r
+
+  of-write-channel : Tells image.write_channel.ended image.write_channel.clauses
+      (λ κs a (r : NumberWritten). writingNumbers r ≡ writtenTold (a .1 .0 .now) (a .1 .1 .0) (allBytes (channelNumbers (a .0))))
+  unfolding writeChannel
+  of-write-channel κs a g r ws =
+      lent-one _ (λ (r : NumberWritten). writingNumbers r ≡ _) (written-told (a .1 .0 .now) (a .1 .1 .0) (allBytes (channelNumbers (a .0)))) r _
+
+  of-write-image : Tells image.write_image.ended image.write_image.clauses
+      (λ κs a (r : NumberWritten). writingNumbers r ≡ imageTold (a .0) (a .1 .0) (a .1 .1 .0 .now))
+  of-write-image κs a g r ws =
+      lent-one _ (λ (r : NumberWritten). writingNumbers r ≡ _) (image-told (a .0) (a .1 .0) (a .1 .1 .0 .now)) r _
+
+  -- the calls for C: what they answer is the number itself
+  of-c-set-up : Tells lobrinkas.lobrinkas_set_up.ended lobrinkas.lobrinkas_set_up.clauses
+      (λ κs a (r : Answer). r .refusal ≡ firstNumber (setUpCallRows (a .0 .now) (a .1 .0 .now) (a .1 .1 .0)))
+  of-c-set-up κs a g r ws =
+      lent-one _ (λ (r : Answer). r .refusal ≡ _) (set-up-call-number (a .0 .now) (a .1 .0 .now) (a .1 .1 .0)) r _
+
+  of-c-post : Tells lobrinkas.lobrinkas_post.ended lobrinkas.lobrinkas_post.clauses
+      (λ κs a (r : Answer). r .refusal ≡ firstNumber
+      (postCallRows (a .0 .now) (a .1 .0)
+      (order (a .1 .1 .0) (a .1 .1 .1 .0) (a .1 .1 .1 .1 .0) (a .1 .1 .1 .1 .1 .0) (a .1 .1 .1 .1 .1 .1 .0) (a .1 .1 .1 .1 .1 .1 .1 .0))))
+  of-c-post κs a g r ws =
+      lent-one _ (λ (r : Answer). r .refusal ≡ _)
+      (post-call-number (a .0 .now) (a .1 .0)
+      (order (a .1 .1 .0) (a .1 .1 .1 .0) (a .1 .1 .1 .1 .0) (a .1 .1 .1 .1 .1 .0) (a .1 .1 .1 .1 .1 .1 .0) (a .1 .1 .1 .1 .1 .1 .1 .0))) r _
+
+  of-c-step : Tells lobrinkas.lobrinkas_step.ended lobrinkas.lobrinkas_step.clauses
+      (λ κs a (r : StepCall). r .refusal ≡ firstNumber
+      (stepCallRows (a .0 .now) (a .1 .0) (a .1 .1 .0 .now) (a .1 .1 .1 .0 .now) (a .1 .1 .1 .1 .0)))
+  of-c-step κs a g r ws =
+      lent-three _ (λ (r : StepCall). r .refusal ≡ _)
+      (step-call-number (a .0 .now) (a .1 .0) (a .1 .1 .0 .now) (a .1 .1 .1 .0 .now) (a .1 .1 .1 .1 .0)) r _ _ _
+
+  of-c-run : Tells lobrinkas.lobrinkas_run.ended lobrinkas.lobrinkas_run.clauses
+      (λ κs a (r : RunCall). r .refusal ≡ firstNumber
+      (runCallRows (a .0 .now) (a .1 .0) (a .1 .1 .0 .now) (a .1 .1 .1 .0 .now) (a .1 .1 .1 .1 .1 .0)))
+  of-c-run κs a g r ws =
+      lent-three _ (λ (r : RunCall). r .refusal ≡ _)
+      (run-call-number (a .0 .now) (a .1 .0) (a .1 .1 .0 .now) (a .1 .1 .1 .0 .now) (a .1 .1 .1 .1 .0) (a .1 .1 .1 .1 .1 .0)) r _ _ _
+
+  of-c-cycle-count : Tells lobrinkas.lobrinkas_cycle_count.ended lobrinkas.lobrinkas_cycle_count.clauses
+      (λ κs a (r : CountCall). r .refusal ≡ firstNumber (countRows (a .0) (a .1 .0) (a .1 .1 .0) (a .1 .1 .1 .0)))
+  of-c-cycle-count κs a g r ws =
+      alone _ (λ (r : CountCall). r .refusal ≡ _) (count-number (a .0) (a .1 .0) (a .1 .1 .0) (a .1 .1 .1 .0)) r

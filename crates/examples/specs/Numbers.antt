@@ -1,9 +1,9 @@
 -- Document 01, "Refusal numbers": "No. | Given exactly when", the table's 1 to 9 in one place, a list of rows for each call in the order that the paper gives:
 -- "9 first, then 8, then 7, then the rest by number"; and 17. "10 to 17: sheet, below": 10 to 16 stand, by their numbers, in number/Number and sheet/Sheet.
--- That the calls' promises give these numbers is shown in proofs/Refusals.
+-- Document 02, CR 1, adds 18 and the calls over an image, at the end. That the calls' promises give these numbers is shown in proofs/Refusals.
 use Prim.Native.Nat.{ℕ, _+_}
-use mathlib.Core.Bool.{Bool, cond, not, _&&_}
-use mathlib.Core.List.{List, [], _∷_}
+use mathlib.Core.Bool.{Bool, true, false, cond, not, _&&_}
+use mathlib.Core.List.{List, [], _∷_, _++_}
 use lib.Dec.{eqb, leb, ltb}
 use lib.ListN.{length}
 use Rattle.refusal.specs.Refusal.{refusalNumber}
@@ -17,18 +17,25 @@ use Rattle.channel.specs.declared.Phase.{Phase}
 use Rattle.channel.specs.declared.Phase.the-variants.{Arbitrating, Granted}
 use Rattle.channel.specs.declared.Channel.{Channel}
 use Rattle.channel.specs.declared.Request.{Request}
-use Rattle.channel.specs.Channel.{hasRequest, requestOf}
+use Rattle.channel.specs.Channel.{freshChannel, hasRequest, requestOf}
 use Rattle.channel.specs.Slave.{slaveOf}
 use Rattle.sound.specs.Request.{isInRange, isInsideSlave, isOutsideMaster}
 use Rattle.sound.specs.Sound.{isSound}
 use Rattle.frame.specs.declared.Order.{Order}
-use Rattle.post.specs.Post.{requestIn}
+use Rattle.post.specs.Post.{requestIn, postOf}
 use Rattle.act.specs.Turn.{arbitrationTime}
 use Rattle.logline.specs.Text.{hasRoomIn as lineRoom}
+use Rattle.tally.specs.declared.Tally.{Tally}
+use Rattle.step.specs.Step.{stepOf}
 use Rattle.step.specs.Run.{World, runOf}
 use Rattle.step.specs.Log.{Page, LoggedOut, logRunOf}
 use Rattle.numbers.specs.declared.Part.{Part}
 use Rattle.numbers.specs.declared.Part.the-variants.{Good, Fault}
+use Rattle.numbers.specs.Numbers.{allBytes}
+use Rattle.number.specs.Number.{readNumber}
+use Rattle.image.specs.Layout.{imageBytes, imageMost}
+use Rattle.image.specs.Read.{headAt}
+use Rattle.image.specs.Image.{readSetup, readChannel, readImage, readHead}
 
 -- a row: the number, and whether what the paper says of it is so
 abbrev pub RefusalRow : Type 0
@@ -98,3 +105,56 @@ writtenTold s at what = cond (leb (at + length what) (length s)) (0 ∷ (at + le
 abbrev pub sheetTold : Part → ℕ → ℕ → List ℕ
 sheetTold (Good end) need room = cond (leb need room) (0 ∷ need ∷ []) (17 ∷ 0 ∷ [])
 sheetTold (Fault why place) need room = refusalNumber why ∷ place ∷ []
+
+-- Document 02, CR 1: "18 for a malformed image, before 9; 17 as in the sheet". The bytes are an image where both its parts are good, and nothing follows them
+abbrev pub isGoodThen : Part → (ℕ → Bool) → Bool
+isGoodThen (Good at) f = f at
+isGoodThen (Fault why place) f = false
+
+abbrev pub isImage : List ℕ → ℕ → Bool
+isImage bytes n = isGoodThen (readSetup bytes n .part) (λ start. isGoodThen (readChannel bytes n start .part) (λ end. true))
+
+abbrev pub malformedImage : List ℕ → ℕ → RefusalRow
+malformedImage bytes n = (18, not (isImage bytes n))
+
+-- a list is a sheet's head where its bytes are, and nothing follows it
+abbrev pub isHead : List ℕ → Bool
+isHead list = isGoodThen (headAt (readNumber (allBytes list)) 0 .part) (λ end. not (ltb end (length (allBytes list))))
+
+abbrev pub malformedHead : List ℕ → RefusalRow
+malformedHead list = (18, not (isHead list))
+
+-- an image that is written: 9, then 17
+abbrev pub imageTold : Setup → Channel → List ℕ → List ℕ
+imageTold setup ch out = cond (unsound setup ch .1) (9 ∷ 0 ∷ []) (writtenTold out 0 (imageBytes setup ch))
+
+-- the calls for C: 18, then the rows of the plain call on what was read, and 17 last, where the memory has no room for the new image
+abbrev pub noImageRoom : Setup → Channel → List ℕ → RefusalRow
+noImageRoom setup ch image = (17, not (leb (length (imageBytes setup ch)) (length image)))
+
+-- 18 9 17
+abbrev pub setUpCallRows : List ℕ → List ℕ → ℕ → List RefusalRow
+setUpCallRows image list master =
+    let setup = readHead list master .setup in malformedHead list ∷ broken setup ∷ noImageRoom setup freshChannel image ∷ []
+
+-- 18 9 1 2 3 4 5 17
+abbrev pub postCallRows : List ℕ → ℕ → Order → List RefusalRow
+postCallRows image n p =
+    let setup = readImage image n .setup in
+    let ch = readImage image n .channel in
+    malformedImage image n ∷ (postRows setup ch p ++ (noImageRoom setup (postOf setup ch p .channel) image ∷ []))
+
+-- 18 9 8 6 17
+abbrev pub stepCallRows : List ℕ → ℕ → List ℕ → List ℕ → Tally → List RefusalRow
+stepCallRows image n slave master t =
+    let setup = readImage image n .setup in
+    let ch = readImage image n .channel in
+    malformedImage image n
+    ∷ (stepRows setup ch (length slave) (length master) ++ (noImageRoom setup (stepOf setup ch t slave master .channel) image ∷ []))
+
+-- 18 9 8 7 17: a run's last image isn't known before, so there has to be room for the longest. Its 6 is no refusal
+abbrev pub runCallRows : List ℕ → ℕ → List ℕ → List ℕ → ℕ → List RefusalRow
+runCallRows image n slave master budget =
+    let setup = readImage image n .setup in
+    malformedImage image n ∷ unsound setup (readImage image n .channel) ∷ otherLength setup (length slave) (length master) ∷ (7, ltb stepsMost budget)
+    ∷ (17, not (leb imageMost (length image))) ∷ []
