@@ -88,6 +88,6 @@ channelNumbers ch =
 unfoldable pub imageBytes : Setup → Channel → List ℕ
 imageBytes setup ch = allBytes (setupNumbers setup ++ channelNumbers ch)
 
--- the longest that there is of a set-up that keeps the frame and a channel that is sound (law `image-most`; examples has one that is as long)
+-- the longest that there is of a set-up that keeps the frame and a channel that is sound (law `image-most`; LongestExample in proofs has one that is as long)
 abbrev pub imageMost : ℕ
 imageMost = 409
