@@ -4,6 +4,7 @@
 mod lists;
 mod rows;
 mod states;
+mod writing;
 
 use channel::Asked;
 use channel::Channel;
