@@ -290,6 +290,6 @@ module _ (src : Source) where
       let all = requestsAt src places 0 (state .channel) next in
       state-then (ChannelTold len at) (all .part) (all .channel) _ (λ end g.
       let q = requests-told places 0 (state .channel) next (omega arith) none end g in
-      state-cond (ChannelTold len at) (ltb end len) _ _
-      (λ t last h. no-good h)
-      (λ f. at-good (ChannelTold len at (all .channel)) (all-told len at next _ _ end s q (ltb-false end len f)))))
+      by-test (ltb end len)
+      (λ t last h. no-good (rw t at h))
+      (λ f. rw f (at-good (ChannelTold len at (all .channel)) (all-told len at next _ _ end s q (ltb-false end len f))))))

@@ -1,8 +1,7 @@
 -- What an image says, by how its two parts were read; and a list of numbers laid at the start of a longer one. Assumes nothing.
 use Prim.Native.Nat.{ℕ, _+_, _*_, _≤_, _<_}
-use native.Mathlib.Nat.{zero-add}
 use mathlib.Core.Path.{_≡_, sym, ap, _∙_}
-use mathlib.Core.List.{List, _++_}
+use mathlib.Core.List.{List, [], _∷_, _++_, append-nil}
 use native.Mathlib.Omega.{arith}
 use borrow.Author.Tests.{lt-ltb, le-ltb}
 use lib.ListN.{length, take, drop, length-append}
@@ -13,15 +12,15 @@ use Rattle.numbers.specs.declared.Part.the-variants.{Good, Fault}
 use Rattle.sheet.specs.declared.RowsRead.{RowsRead}
 use Rattle.image.specs.declared.ChannelRead.{ChannelRead}
 use Rattle.channel.specs.Channel.{freshChannel}
-use Rattle.number.specs.Number.{readNumber}
-use Rattle.number.specs.Number.{wholeAt, wholeAfter}
+use Rattle.number.specs.Number.{bytesOf, wholeAt, wholeAfter}
 use Rattle.number.specs.declared.NumberWritten.{NumberWritten}
 use Rattle.number.specs.declared.NumberWritten.the-variants.{Past, Refused as NotWritten}
 use Rattle.number.proofs.Laws.{whole}
 use Rattle.numbers.specs.Numbers.{allBytes, writeNumbers, writeNumbersAfter}
+use Rattle.numbers.proofs.RoundTrip.{all-append}
 use Rattle.numbers.proofs.Laws.{sets-append, sizes-most, past-is, no-room}
-use Rattle.image.specs.Read.{headAt, withMaster}
-use Rattle.image.specs.Image.{readSetup, readChannel, imaged, malformed, readImage, headRead}
+use Rattle.image.specs.Layout.{layoutNumber}
+use Rattle.image.specs.Image.{readSetup, readChannel, imaged, malformed, readImage, headRead, headBytes}
 
 module _ (bytes : List ℕ) (n : ℕ) {head : RowsRead} (is : head ≡ readSetup bytes n) where
   pub image-none : {why : Refusal} {p : ℕ} → head .part ≡ Fault why p → malformed ≡ readImage bytes n
@@ -52,36 +51,64 @@ both-laid out a b {mid} {count} {upper} {after} room m u c l =
     let laid : after ≡ sets out 0 (a ++ b) = l ∙ rw (u, place) (sym (sets-append a b out 0)) in
     laid-front out (a ++ b) count (omega arith) (omega arith) laid
 
--- the set-up of a head, by how its rows were read
-module _ (bytes : List ℕ) (master : ℕ) {rows : RowsRead} (is : rows ≡ headAt (readNumber bytes) 0) where
-  pub head-none : {why : Refusal} {p : ℕ} → rows .part ≡ Fault why p → malformed ≡ headRead bytes master
+-- the set-up of a head, by how its numbers were read
+module _ (bytes : List ℕ) {rows : RowsRead} (is : rows ≡ readSetup bytes (length bytes)) where
+  pub head-none : {why : Refusal} {p : ℕ} → rows .part ≡ Fault why p → malformed ≡ headRead bytes
   unfolding headRead
   head-none e = rw (← is, e)
 
   module _ {end : ℕ} (e : rows .part ≡ Good end) where
-    pub head-follows : end < length bytes → malformed ≡ headRead bytes master
+    pub head-follows : end < length bytes → malformed ≡ headRead bytes
     unfolding headRead
     head-follows h = rw (← is, e, lt-ltb end (length bytes) h)
 
-    pub head-on : length bytes ≤ end → imaged (withMaster (rows .setup) master) freshChannel Accepted ≡ headRead bytes master
+    pub head-on : length bytes ≤ end → imaged (rows .setup) freshChannel Accepted ≡ headRead bytes
     unfolding headRead
     head-on h = rw (← is, e, le-ltb end (length bytes) h)
 
--- a short list is written whole into a long row of bytes
-module _ (list out : List ℕ) (room : 5 * length list ≤ length out) where
-  list-whole : (wholeAt out 0 (allBytes list) ≡ Past (0 + length (allBytes list))) × (wholeAfter out 0 (allBytes list) ≡ sets out 0 (allBytes list))
-  list-whole = whole out 0 (allBytes list) (omega (arith, sizes-most list))
+-- a short list is written whole, from any place of a long row of bytes on
+module _ (list out : List ℕ) (at : ℕ) (room : at + 5 * length list ≤ length out) where
+  list-whole : (wholeAt out at (allBytes list) ≡ Past (at + length (allBytes list))) × (wholeAfter out at (allBytes list) ≡ sets out at (allBytes list))
+  list-whole = whole out at (allBytes list) (omega (arith, sizes-most list))
 
-  pub list-none : {A : Type 0} {got : NumberWritten} {why : Refusal} → got ≡ writeNumbers list out 0 → got ≡ NotWritten why → A
+  pub list-none : {A : Type 0} {got : NumberWritten} {why : Refusal} → got ≡ writeNumbers list out at → got ≡ NotWritten why → A
   unfolding writeNumbers
   list-none is e = no-room (sym e ∙ is ∙ list-whole .0)
 
-  module _ {got : NumberWritten} {after : List ℕ} (is : got ≡ writeNumbers list out 0) (left : after ≡ writeNumbersAfter list out 0)
-      {n : ℕ} (e : got ≡ Past n) where
-    pub list-size : n ≡ length (allBytes list)
-    unfolding writeNumbers
-    list-size = past-is (sym e ∙ is ∙ list-whole .0) ∙ zero-add (length (allBytes list))
+  pub list-size : {got : NumberWritten} → got ≡ writeNumbers list out at → {n : ℕ} → got ≡ Past n → n ≡ at + length (allBytes list)
+  unfolding writeNumbers
+  list-size is e = past-is (sym e ∙ is ∙ list-whole .0)
 
-    pub list-front : take n after ≡ allBytes list
-    unfolding writeNumbersAfter
-    list-front = laid-front out (allBytes list) n (omega (arith, sizes-most list)) list-size (left ∙ list-whole .1)
+  pub list-laid : {after : List ℕ} → after ≡ writeNumbersAfter list out at → after ≡ sets out at (allBytes list)
+  unfolding writeNumbersAfter
+  list-laid left = left ∙ list-whole .1
+
+-- the layout number, a list and the length of the master store, each laid after the other, are the bytes of a head
+module _ (list : List ℕ) (master : ℕ) where
+  head-parts : headBytes list master ≡ bytesOf layoutNumber ++ (allBytes list ++ bytesOf master)
+  head-parts =
+      ap (λ (x : List ℕ). bytesOf layoutNumber ++ x)
+      (all-append list (master ∷ []) ∙ ap (λ (x : List ℕ). allBytes list ++ x) (append-nil (bytesOf master)))
+
+  pub head-size : {first last end : ℕ} → first ≡ 0 + length (bytesOf layoutNumber) → last ≡ first + length (allBytes list)
+      → end ≡ last + length (bytesOf master) → end ≡ length (headBytes list master)
+  head-size f l e =
+      omega (
+        arith,
+        ap length head-parts,
+        length-append (bytesOf layoutNumber) (allBytes list ++ bytesOf master),
+        length-append (allBytes list) (bytesOf master),
+      )
+
+  pub head-laid : (out : List ℕ) {first last : ℕ} {a b c : List ℕ} → first ≡ 0 + length (bytesOf layoutNumber) → last ≡ first + length (allBytes list)
+      → a ≡ sets out 0 (bytesOf layoutNumber) → b ≡ sets a first (allBytes list) → c ≡ sets b last (bytesOf master)
+      → c ≡ sets out 0 (headBytes list master)
+  head-laid out f l a b c =
+      sym
+      (ap (sets out 0) head-parts
+      ∙ sets-append (bytesOf layoutNumber) (allBytes list ++ bytesOf master) out 0
+      ∙ sets-append (allBytes list) (bytesOf master) (sets out 0 (bytesOf layoutNumber)) (0 + length (bytesOf layoutNumber))
+      ∙ sym (c ∙ rw (b, a, l, f)))
+
+  pub head-most : length (headBytes list master) ≤ 5 * (2 + length list)
+  head-most = omega (arith, sizes-most (layoutNumber ∷ (list ++ (master ∷ []))), length-append list (master ∷ []))

@@ -11,19 +11,18 @@ use Rattle.refusal.specs.declared.Verdict.the-variants.{Accepted}
 use Rattle.number.specs.Number.{readNumber, Bytes}
 use Rattle.numbers.specs.Numbers.{allBytes}
 use Rattle.numbers.specs.declared.Part.the-variants.{Good}
-use Rattle.numbers.proofs.RoundTrip.{Numbers}
-use Rattle.numbers.proofs.Spelt.{spells-as, spells-split, spells-same, all-spell}
+use Rattle.numbers.proofs.Spelt.{spells-split, spells-same, all-spell}
 use Rattle.frame.specs.declared.Setup.{Setup}
 use Rattle.channel.specs.declared.Channel.{Channel}
 use Rattle.sheet.specs.declared.RowsRead.{RowsRead}
 use Rattle.sheet.specs.Sheet.{rowsRead}
 use Rattle.image.specs.declared.Imaged.{Imaged}
 use Rattle.image.specs.Layout.{setupNumbers, channelNumbers, imageBytes}
-use Rattle.image.specs.Read.{withMaster, setupAt, channelRead, channelPartAt}
-use Rattle.image.specs.Image.{imaged, readSetup, readChannel, readImage, readHead}
+use Rattle.image.specs.Read.{setupAt, channelRead, channelPartAt}
+use Rattle.image.specs.Image.{imaged, readSetup, readChannel, readImage, headBytes, readHead}
 use Rattle.image.proofs.Writable.{Writable}
 use Rattle.image.proofs.WrittenBack.{image-parts, image-spelt, image-written, image-writable, head-read}
-use Rattle.image.proofs.SetupBack.{tidied, head-read as head-back, setup-read}
+use Rattle.image.proofs.SetupBack.{tidied, setup-read}
 use Rattle.image.proofs.ChannelBack.{channel-read}
 
 module _ (setup : Setup) (ch : Channel) (w : Writable setup ch) where
@@ -85,9 +84,9 @@ read-tidied bytes n y {setup} {ch} e =
     ap (λ (i : Imaged). i .setup) (sym again ∙ e)
 
 -- nor of a set-up that was read from a sheet's head: with it the round trip gives the set-up itself
-pub head-tidied : (list : List ℕ) (master : ℕ) → Numbers list → {setup : Setup} {ch : Channel} → readHead list master ≡ imaged setup ch Accepted
+pub head-tidied : (list : List ℕ) (master : ℕ) {setup : Setup} {ch : Channel} → readHead list master ≡ imaged setup ch Accepted
     → tidied setup ≡ setup
-head-tidied list master fit {setup} e =
-    let h = head-read list master fit e in
-    let again = head-back setup (h .wide) (h .few) (readNumber (allBytes list)) 0 (spells-as (h .list-is) (all-spell list fit)) in
-    ap (withMaster (tidied setup)) (h .master-is) ∙ ap (λ (r : RowsRead). withMaster (r .setup) master) (sym again) ∙ h .setup-is
+head-tidied list master {setup} e =
+    let h = head-read list master e in
+    let again = setup-read setup (h .wide) (h .few) (readNumber (headBytes list master)) (h .spelt) in
+    ap (λ (r : RowsRead). r .setup) (sym again) ∙ h .setup-is

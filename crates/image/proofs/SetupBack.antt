@@ -1,7 +1,7 @@
 -- A source that spells a set-up's numbers is read as that set-up, with nothing behind its counts: rows, tables, a head, the whole. Assumes nothing.
 use Prim.Native.Nat.{ℕ, zero, suc, _+_, _-_, _≤_, _<_}
 use mathlib.Core.Path.{_≡_, refl, sym, ap, ap₂, _∙_}
-use mathlib.Core.List.{List, [], _++_}
+use mathlib.Core.List.{List, [], _∷_, _++_}
 use native.Mathlib.Nat.{zero-add}
 use native.Mathlib.Omega.{arith}
 use borrow.Author.Tests.{ltb-true, ltb-false}
@@ -37,7 +37,7 @@ use Rattle.frame.proofs.KindLaws.{
 }
 use Rattle.sheet.specs.Sheet.{rowsRead}
 use Rattle.image.specs.Layout.{layoutNumber, newestEdition, rowNumbers, rowsNumbers, countedNumbers, headNumbers, setupNumbers}
-use Rattle.image.specs.Read.{rowsAt, countedAt, tablesAt, headAt, masterAt, setupAt}
+use Rattle.image.specs.Read.{rowsAt, countedAt, tablesAt, headAt, setupAt}
 use Rattle.image.proofs.RowLaws.{row-many}
 
 -- a table's first rows, as many as its count, and nothing in the places behind them
@@ -175,24 +175,25 @@ module _ (setup : Setup) (wide : Wide setup) (few : (kind : RowKind) → rowCoun
         (rows-read kind n 0 (withCount own kind n) (f .0) (zero-add n) begun (spells-as (ap (λ (k : ℕ). rowsNumbers setup kind k 0) present) (f .2))
         ∙ ap (λ (x : Setup). rowsRead x (Good end)) (count-tidy kind own n))
 
-    -- both tables
-    abbrev tables : Setup
-    tables = withTidy Slaves (withTidy Levels noRows setup) setup
-
-    tables-read : (at : ℕ) {end : ℕ} → Spells src at (countedNumbers setup Levels ++ countedNumbers setup Slaves) end
-        → tablesAt src at ≡ rowsRead tables (Good end)
+    -- both tables and the length of the master store
+    tables-read : (at : ℕ) {end : ℕ} → Spells src at ((countedNumbers setup Levels ++ countedNumbers setup Slaves) ++ (setup .master ∷ [])) end
+        → tablesAt src at ≡ rowsRead (tidied setup) (Good end)
     unfolding tablesAt
     tables-read at s =
-        let t = spells-split (countedNumbers setup Levels) s in
+        let b = spells-split (countedNumbers setup Levels ++ countedNumbers setup Slaves) s in
+        let t = spells-split (countedNumbers setup Levels) (b .1) in
+        let m = spells-first (b .2) in
         let levels = counted-read Levels noRows at no-rows-wide (λ j. replicate-at rowsMost j noLevel) (t .1) in
         let w : Wide (withTidy Levels noRows setup) = record {
           levels = tidy-length noLevel (setup .levels .count) (setup .levels .rows) (few Levels) (wide .levels);
           slaves = refl;
         } in
-        rw levels (counted-read Slaves (withTidy Levels noRows setup) (t .0) w (λ j. replicate-at rowsMost j noSlave) (t .2))
+        let slaves = counted-read Slaves (withTidy Levels noRows setup) (t .0) w (λ j. replicate-at rowsMost j noSlave) (t .2) in
+        rw (levels, slaves, m .1, spells-none (m .2))
 
-    -- a sheet's head
-    pub head-read : (at : ℕ) {end : ℕ} → Spells src at (headNumbers setup) end → headAt src at ≡ rowsRead tables (Good end)
+    -- a sheet's head, and the length of the master store
+    head-read : (at : ℕ) {end : ℕ} → Spells src at (headNumbers setup ++ (setup .master ∷ [])) end
+        → headAt src at ≡ rowsRead (tidied setup) (Good end)
     unfolding headAt headNumbers
     head-read at s =
         let f = spells-first s in
@@ -200,14 +201,7 @@ module _ (setup : Setup) (wide : Wide setup) (few : (kind : RowKind) → rowCoun
 
     -- A set-up.
     pub setup-read : {end : ℕ} → Spells src 0 (setupNumbers setup) end → setupAt src ≡ rowsRead (tidied setup) (Good end)
-    unfolding setupAt setupNumbers masterAt
+    unfolding setupAt setupNumbers
     setup-read s =
         let f = spells-first s in
-        let t = spells-split (headNumbers setup) (f .2) in
-        let m = spells-first (t .2) in
-        rw (
-          ranged-by src layoutNumber layoutNumber (refusalBy 18) 0 (f .1) (omega arith) (omega arith),
-          head-read (f .0) (t .1),
-          m .1,
-          spells-none (m .2),
-        )
+        rw (ranged-by src layoutNumber layoutNumber (refusalBy 18) 0 (f .1) (omega arith) (omega arith)) (head-read (f .0) (f .2))

@@ -39,8 +39,8 @@ use Rattle.frame.proofs.KindLaws.{
 use Rattle.sheet.specs.declared.RowsRead.{RowsRead}
 use Rattle.sheet.specs.Sheet.{thenRows, withRows}
 use Rattle.image.specs.Layout.{layoutNumber, newestEdition, rowNumbers, rowsNumbers, countedNumbers, headNumbers, setupNumbers}
-use Rattle.image.specs.Read.{numberIn, rowsAt, countedAt, tablesAt, headAt, withMaster, masterAt, setupAt}
-use Rattle.image.proofs.RowLaws.{put-numbers, put-before, count-same, counted-same, head-same}
+use Rattle.image.specs.Read.{numberIn, rowsAt, countedAt, tablesAt, headAt, withMaster, setupAt}
+use Rattle.image.proofs.RowLaws.{put-numbers, put-before, count-same, counted-same}
 
 -- what holds of rows that were read and of their end, where their part is good
 abbrev pub Rows : (Setup → ℕ → Type 0) → RowsRead → Type 0
@@ -58,13 +58,13 @@ module _ (P : Setup → ℕ → Type 0) where
 
 -- another length of the master store leaves the rows
 module _ (setup : Setup) (length : ℕ) where
-  pub master-head : headNumbers setup ≡ headNumbers (withMaster setup length)
-  master-head = head-same setup (withMaster setup length) (by-kind _ refl refl)
+  master-counted : (kind : RowKind) → countedNumbers setup kind ≡ countedNumbers (withMaster setup length) kind
+  master-counted = by-kind _ (counted-same setup (withMaster setup length) Levels refl) (counted-same setup (withMaster setup length) Slaves refl)
 
-  pub master-few : ((kind : RowKind) → rowCount setup kind ≤ rowsMost) → (kind : RowKind) → rowCount (withMaster setup length) kind ≤ rowsMost
+  master-few : ((kind : RowKind) → rowCount setup kind ≤ rowsMost) → (kind : RowKind) → rowCount (withMaster setup length) kind ≤ rowsMost
   master-few h = by-kind _ (h Levels) (h Slaves)
 
-  pub master-wide : Wide setup → Wide (withMaster setup length)
+  master-wide : Wide setup → Wide (withMaster setup length)
   master-wide w = record { levels = w .levels; slaves = w .slaves }
 
 module _ (src : Source) where
@@ -125,24 +125,32 @@ module _ (src : Source) where
     pub few : (kind : RowKind) → rowCount setup kind ≤ rowsMost
     pub wide : Wide setup
 
-  -- both tables
+  -- both tables and the length of the master store
   abbrev tableNumbers : Setup → List ℕ
-  tableNumbers setup = countedNumbers setup Levels ++ countedNumbers setup Slaves
+  tableNumbers setup = (countedNumbers setup Levels ++ countedNumbers setup Slaves) ++ (setup .master ∷ [])
 
   tables-told : (at : ℕ) → Rows (SetupTold tableNumbers at) (tablesAt src at)
   unfolding tablesAt
   tables-told at =
       let levels = countedAt Levels src noRows at in
-      rows-then (SetupTold tableNumbers at) (levels .part) (levels .setup) _ (λ second e end g.
+      rows-then (SetupTold tableNumbers at) (levels .part) noRows _ (λ second e.
+      let both = countedAt Slaves src (levels .setup) second in
+      rows-then (SetupTold tableNumbers at) (both .part) noRows _ (λ third f.
+      rows-with (SetupTold tableNumbers at) (src third) noRows _ (λ length end r.
       let l = counted-told Levels noRows at no-rows-wide second e in
-      let s = counted-told Slaves (levels .setup) second (l .wide) end g in
-      let setup = countedAt Slaves src (levels .setup) second .setup in
-      let same : setup .levels ≡ levels .setup .levels = s .others Levels other-kind in
-      record {
-        spelt = spells-append (spells-as (sym (counted-same setup (levels .setup) Levels same)) (l .spelt)) (s .spelt);
-        few = by-kind _ (omega (arith, l .few, count-same setup (levels .setup) Levels same)) (s .few);
-        wide = s .wide;
-      })
+      let s = counted-told Slaves (levels .setup) second (l .wide) third f in
+      let same : both .setup .levels ≡ levels .setup .levels = s .others Levels other-kind in
+      let upper = spells-as (sym (counted-same (both .setup) (levels .setup) Levels same)) (l .spelt) in
+      let few = by-kind (λ kind. rowCount (both .setup) kind ≤ rowsMost)
+      (omega (arith, l .few, count-same (both .setup) (levels .setup) Levels same)) (s .few) in
+      at-good (SetupTold tableNumbers at (withMaster (both .setup) length))
+      (record {
+        spelt = spells-append
+            (spells-append (spells-as (master-counted (both .setup) length Levels) upper) (spells-as (master-counted (both .setup) length Slaves) (s .spelt)))
+            (spells-one r);
+        few = master-few (both .setup) length few;
+        wide = master-wide (both .setup) length (s .wide);
+      }))))
 
   -- a number for which there is room for one value only
   only : (v at : ℕ) {w next : ℕ} → numberIn src v v at ≡ Number w next → src at ≡ Number v next
@@ -151,35 +159,21 @@ module _ (src : Source) where
       let same : w ≡ v = omega (arith, r .least, r .most) in
       rw same at (r .stands)
 
-  -- a sheet's head
-  pub head-told : (at : ℕ) → Rows (SetupTold headNumbers at) (headAt src at)
-  unfolding headAt headNumbers
-  head-told at =
-      rows-with (SetupTold headNumbers at) (numberIn src newestEdition newestEdition at) noRows _ (λ edition first e end g.
-      let t = tables-told first end g in
-      record { spelt = then (only newestEdition at e) (t .spelt); few = t .few; wide = t .wide })
-
-  -- with the length of the master store
+  -- a sheet's head, and the length of the master store
   abbrev headAndMaster : Setup → List ℕ
   headAndMaster setup = headNumbers setup ++ (setup .master ∷ [])
 
-  master-told : (at : ℕ) (rows : RowsRead) → Rows (SetupTold headNumbers at) rows → Rows (SetupTold headAndMaster at) (masterAt src rows)
-  unfolding masterAt
-  master-told at rows h =
-      rows-then (SetupTold headAndMaster at) (rows .part) (rows .setup) _ (λ last e.
-      let t = h last e in
-      rows-with (SetupTold headAndMaster at) (src last) (rows .setup) _ (λ length end r.
-      at-good (SetupTold headAndMaster at (withMaster (rows .setup) length))
-      (record {
-        spelt = spells-append (spells-as (master-head (rows .setup) length) (t .spelt)) (spells-one r);
-        few = master-few (rows .setup) length (t .few);
-        wide = master-wide (rows .setup) length (t .wide);
-      })))
+  head-told : (at : ℕ) → Rows (SetupTold headAndMaster at) (headAt src at)
+  unfolding headAt headNumbers
+  head-told at =
+      rows-with (SetupTold headAndMaster at) (numberIn src newestEdition newestEdition at) noRows _ (λ edition first e end g.
+      let t = tables-told first end g in
+      record { spelt = then (only newestEdition at e) (t .spelt); few = t .few; wide = t .wide })
 
   -- A set-up, and what was read of it.
   pub setup-told : Rows (SetupTold setupNumbers 0) (setupAt src)
   unfolding setupAt setupNumbers
   setup-told =
       rows-with (SetupTold setupNumbers 0) (numberIn src layoutNumber layoutNumber 0) noRows _ (λ layout first e end g.
-      let t = master-told first (headAt src first) (head-told first) end g in
+      let t = head-told first end g in
       record { spelt = then (only layoutNumber 0 e) (t .spelt); few = t .few; wide = t .wide })

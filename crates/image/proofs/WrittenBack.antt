@@ -6,8 +6,8 @@ use mathlib.Core.List.{List, [], _∷_, _++_}
 use native.Mathlib.Nat.{zero-add}
 use native.Mathlib.Omega.{arith}
 use borrow.Author.Tests.{leb-true, le-leb, ltb-false}
-use lib.ListN.{length, take, drop, length-append, take-append-drop}
-use lib.Seq.{sets, sets-eq, take-take, take-at, take-all, length-take-le}
+use lib.ListN.{length, take, drop, getD, length-append, take-append-drop}
+use lib.Seq.{sets, sets-eq, take-take, take-at, take-all, length-take-le, take-append-seam, getD-append-add}
 use lib.Dec.{leb, ltb}
 use Rattle.basics.specs.Limits.{rowsMost}
 use Rattle.basics.proofs.Tests.{by-test}
@@ -19,6 +19,7 @@ use Rattle.numbers.specs.declared.Part.the-variants.{Good, Fault}
 use Rattle.numbers.proofs.Parts.{no-good}
 use Rattle.numbers.proofs.RoundTrip.{Numbers, all-append}
 use Rattle.numbers.proofs.Laws.{sets-append}
+use Rattle.numbers.proofs.SizeLaws.{Small, small-none, small-any, small-append}
 use Rattle.numbers.proofs.Spelt.{Spells, spells-append, spells-within, spells-same, spells-bytes, spells-size, spells-fit, all-spell}
 use Rattle.frame.specs.declared.Setup.{Setup}
 use Rattle.frame.specs.declared.RowKind.{RowKind}
@@ -31,11 +32,11 @@ use Rattle.channel.specs.Channel.{freshChannel}
 use Rattle.sheet.specs.declared.RowsRead.{RowsRead}
 use Rattle.image.specs.declared.ChannelRead.{ChannelRead}
 use Rattle.image.specs.declared.Imaged.{Imaged}
-use Rattle.image.specs.Layout.{countedNumbers, headNumbers, setupNumbers, channelNumbers, imageBytes}
-use Rattle.image.specs.Read.{headAt, withMaster, setupAt, channelPartAt}
-use Rattle.image.specs.Image.{imaged, malformed, thenImage, readSetup, readChannel, readImage, headRead, readHead}
+use Rattle.image.specs.Layout.{layoutNumber, countedNumbers, headNumbers, setupNumbers, channelNumbers, imageBytes}
+use Rattle.image.specs.Read.{setupAt, channelPartAt}
+use Rattle.image.specs.Image.{imaged, malformed, thenImage, readSetup, readChannel, readImage, headRead, headBytes, readHead}
 use Rattle.image.proofs.LayLaws.{rows-size}
-use Rattle.image.proofs.SetupSpelt.{master-head, master-few, master-wide, head-told, setup-told}
+use Rattle.image.proofs.SetupSpelt.{setup-told}
 use Rattle.image.proofs.ChannelSpelt.{channel-told}
 use Rattle.image.proofs.Writable.{Writable}
 
@@ -160,40 +161,63 @@ module _ (bytes : List ℕ) (n : ℕ) (y : Bytes bytes) {setup : Setup} {ch : Ch
         fits = spells-fit (take n bytes) (bytes-take n bytes y) (image-spelt bytes n e);
       }
 
--- A set-up that was read from a list, with a master length, and the fresh channel: the list is a sheet's head of it, and nothing more.
-pub record HeadRead (list : List ℕ) (master : ℕ) (setup : Setup) (ch : Channel) : Type 0 where
-  pub list-is : list ≡ headNumbers setup
-  pub setup-is : withMaster (headAt (readNumber (allBytes list)) 0 .setup) master ≡ setup
-  pub master-is : setup .master ≡ master
-  pub channel-is : ch ≡ freshChannel
-  pub few : (kind : RowKind) → rowCount setup kind ≤ rowsMost
-  pub wide : Wide setup
-
 -- something follows the head, or not
 head-ended : (b : Bool) (i : Imaged) {setup : Setup} {ch : Channel} → cond b malformed i ≡ imaged setup ch Accepted
     → (b ≡ false) × (i ≡ imaged setup ch Accepted)
 head-ended true i e = not-malformed e
 head-ended false i e = (refl, e)
 
-pub head-read : (list : List ℕ) (master : ℕ) → Numbers list → {setup : Setup} {ch : Channel} → readHead list master ≡ imaged setup ch Accepted
+-- A set-up that was read from a list, with a master length, and the fresh channel: the numbers are the set-up's part of an image, and nothing more.
+pub record HeadRead (list : List ℕ) (master : ℕ) (setup : Setup) (ch : Channel) : Type 0 where
+  pub spelt : Spells (readNumber (headBytes list master)) 0 (setupNumbers setup) (length (headBytes list master))
+  pub good : setupAt (readNumber (headBytes list master)) .part ≡ Good (length (headBytes list master))
+  pub setup-is : setupAt (readNumber (headBytes list master)) .setup ≡ setup
+  pub channel-is : ch ≡ freshChannel
+  pub few : (kind : RowKind) → rowCount setup kind ≤ rowsMost
+  pub wide : Wide setup
+
+pub head-read : (list : List ℕ) (master : ℕ) {setup : Setup} {ch : Channel} → readHead list master ≡ imaged setup ch Accepted
     → HeadRead list master setup ch
 unfolding readHead headRead
-head-read list master fit {setup} {ch} e =
-    let s = allBytes list in
-    let rows = headAt (readNumber s) 0 in
+head-read list master {setup} {ch} e =
+    let s = headBytes list master in
+    let rows = readSetup s (length s) in
     let a = then-image (rows .part) _ e in
-    let b = head-ended (ltb (a .0) (length s)) (imaged (withMaster (rows .setup) master) freshChannel Accepted) (a .2) in
-    let t = head-told (readNumber s) 0 (a .0) (a .1) in
-    let ends : length s ≡ a .0 = omega (arith, ltb-false (a .0) (length s) (b .0), spells-within s (t .spelt) (omega arith)) in
-    let setup-is : withMaster (rows .setup) master ≡ setup = ap (λ (i : Imaged). i .setup) (b .1) in
+    let b = head-ended (ltb (a .0) (length s)) (imaged (rows .setup) freshChannel Accepted) (a .2) in
+    let i = setup-inside s (length s) (a .1) in
+    let own : rows ≡ setupAt (readNumber s) = i .1 ∙ ap (λ (x : List ℕ). setupAt (readNumber x)) (take-all (length s) s (omega arith)) in
+    let good = ap (λ (r : RowsRead). r .part) (sym own) ∙ a .1 in
+    let t = setup-told (readNumber s) (a .0) good in
+    let ends : a .0 ≡ length s = omega (arith, ltb-false (a .0) (length s) (b .0), spells-within s (t .spelt) (omega arith)) in
+    let setup-is : setupAt (readNumber s) .setup ≡ setup = ap (λ (r : RowsRead). r .setup) (sym own) ∙ ap (λ (x : Imaged). x .setup) (b .1) in
     record {
-      list-is = spells-same s (rw ends at (all-spell list fit)) (t .spelt) ∙ master-head (rows .setup) master ∙ ap headNumbers setup-is;
+      spelt = rw (setup-is, ends) at (t .spelt);
+      good = rw ends at good;
       setup-is = setup-is;
-      master-is = ap (λ (x : Setup). x .master) (sym setup-is);
-      channel-is = ap (λ (i : Imaged). i .channel) (sym (b .1));
-      few = rw setup-is at (master-few (rows .setup) master (t .few));
-      wide = rw setup-is at (master-wide (rows .setup) master (t .wide));
+      channel-is = ap (λ (x : Imaged). x .channel) (sym (b .1));
+      few = rw setup-is at (t .few);
+      wide = rw setup-is at (t .wide);
     }
+
+-- the first numbers and the last of a list
+last-apart : (a b : List ℕ) {x y : ℕ} → a ++ (x ∷ []) ≡ b ++ (y ∷ []) → (a ≡ b) × (x ≡ y)
+last-apart a b {x} {y} e =
+    let size : length a ≡ length b = omega (arith, ap length e, length-append a (x ∷ []), length-append b (y ∷ [])) in (
+      sym (take-append-seam a (x ∷ [])) ∙ ap₂ take size e ∙ take-append-seam b (y ∷ []),
+      sym (getD-append-add a (x ∷ []) 0 0) ∙ ap₂ (λ (l : List ℕ) (n : ℕ). getD l (n + 0) 0) e size ∙ getD-append-add b (y ∷ []) 0 0,
+    )
+
+-- The list is a sheet's head of that set-up, with its master store's length.
+pub head-list : (list : List ℕ) (master : ℕ) → Numbers list → master < 4294967296 → {setup : Setup} {ch : Channel}
+    → readHead list master ≡ imaged setup ch Accepted
+    → (list ≡ headNumbers setup) × (master ≡ setup .master)
+unfolding setupNumbers
+head-list list master fit small {setup} e =
+    let h = head-read list master e in
+    let own : Small list (length (allBytes list)) = record { fits = fit; most = omega arith } in
+    let fits = small-any layoutNumber (omega arith) (small-append own (small-any master small small-none)) .fits in
+    let whole = spells-same (headBytes list master) (all-spell (layoutNumber ∷ (list ++ (master ∷ []))) fits) (h .spelt) in
+    last-apart list (headNumbers setup) (ap (drop 1) whole)
 
 -- how many numbers a head has
 pub head-many : (setup : Setup) → length (headNumbers setup)
@@ -205,24 +229,23 @@ head-many setup =
     let both = length-append (countedNumbers setup Levels) (countedNumbers setup Slaves) in
     omega (arith, levels, slaves, both)
 
--- A list that is a sheet's head has at most 131 numbers.
-pub head-few : (list : List ℕ) (master : ℕ) → Numbers list → {setup : Setup} {ch : Channel} → readHead list master ≡ imaged setup ch Accepted
-    → length list ≤ 131
-head-few list master fit {setup} e = omega (arith, ap length (head-read list master fit e .list-is), head-many setup)
-
--- A longer list is none.
-pub head-long : (list : List ℕ) (master : ℕ) → Numbers list → 131 < length list → malformed ≡ readHead list master
+-- A longer list than 131 numbers is none.
+pub head-long : (list : List ℕ) (master : ℕ) → Numbers list → master < 4294967296 → 131 < length list → malformed ≡ readHead list master
 unfolding readHead headRead
-head-long list master fit long = go (headAt (readNumber (allBytes list)) 0 .part) refl
+head-long list master fit small long = go (readSetup s (length s) .part) refl
   where
-    go : (part : Part) → headAt (readNumber (allBytes list)) 0 .part ≡ part → malformed ≡ readHead list master
+    s : List ℕ
+    s = headBytes list master
+
+    go : (part : Part) → readSetup (headBytes list master) (length (headBytes list master)) .part ≡ part → malformed ≡ readHead list master
     go (Fault why p) e = rw e
     go (Good end) e =
-        by-test (ltb end (length (allBytes list)))
+        by-test (ltb end (length (headBytes list master)))
         (λ t. rw (e, t))
         (λ f.
-        let read : readHead list master ≡ imaged (withMaster (headAt (readNumber (allBytes list)) 0 .setup) master) freshChannel Accepted = rw (e, f) in
-        absurd (omega (arith, head-few list master fit read)))
+        let setup = readSetup (headBytes list master) (length (headBytes list master)) .setup in
+        let read : readHead list master ≡ imaged setup freshChannel Accepted = rw (e, f) in
+        absurd (omega (arith, ap length (head-list list master fit small read .0), head-many setup)))
 
 -- A channel's part that is written where the set-up's part ends leaves the image of both: the set-up's bytes stand there already.
 module _ (image : List ℕ) (n : ℕ) (y : Bytes image) {start : ℕ} (g : readSetup image n .part ≡ Good start) (next : Channel) where

@@ -1,7 +1,7 @@
 -- Document 02, CR 1: an image read and written, as the calls do it.
 use Prim.Native.Nat.{ℕ}
 use mathlib.Core.Bool.{cond, _&&_}
-use mathlib.Core.List.{List}
+use mathlib.Core.List.{List, [], _∷_, _++_}
 use lib.ListN.{length, take}
 use lib.Dec.{leb, ltb}
 use Rattle.refusal.specs.Refusal.{refusalBy}
@@ -23,8 +23,8 @@ use Rattle.sheet.specs.declared.RowsRead.{RowsRead}
 use Rattle.sheet.specs.Sheet.{rowsRead}
 use Rattle.image.specs.declared.ChannelRead.{ChannelRead}
 use Rattle.image.specs.declared.Imaged.{Imaged}
-use Rattle.image.specs.Layout.{channelNumbers, imageBytes}
-use Rattle.image.specs.Read.{headAt, withMaster, setupAt, channelRead, channelPartAt}
+use Rattle.image.specs.Layout.{layoutNumber, channelNumbers, imageBytes}
+use Rattle.image.specs.Read.{setupAt, channelRead, channelPartAt}
 
 -- an image has a length of its own, which may be shorter than the memory that it stands in; one that is longer is malformed
 unfoldable pub readSetup : List ℕ → ℕ → RowsRead
@@ -65,13 +65,15 @@ writeImage setup ch out = cond (isFramed setup && isSound setup ch) (wholeAt out
 unfoldable pub writeImageAfter : Setup → Channel → List ℕ → List ℕ
 writeImageAfter setup ch out = cond (isFramed setup && isSound setup ch) (wholeAfter out 0 (imageBytes setup ch)) out
 
--- a set-up from a sheet's head, given as the list of its numbers, and the length of the master store: the numbers' bytes are a head and nothing more. The
--- channel is that after set-up
-unfoldable pub headRead : List ℕ → ℕ → Imaged
-headRead bytes master =
-    let rows = headAt (readNumber bytes) 0 in
-    thenImage (rows .part) (λ end.
-    cond (ltb end (length bytes)) malformed (imaged (withMaster (rows .setup) master) freshChannel Accepted))
+-- a set-up from a sheet's head, given as the list of its numbers, and the length of the master store: with the layout number before them and the length after
+-- them the numbers are the set-up's part of an image, and nothing more. The channel is that after set-up
+unfoldable pub headRead : List ℕ → Imaged
+headRead bytes =
+    let rows = readSetup bytes (length bytes) in
+    thenImage (rows .part) (λ end. cond (ltb end (length bytes)) malformed (imaged (rows .setup) freshChannel Accepted))
+
+abbrev pub headBytes : List ℕ → ℕ → List ℕ
+headBytes list master = allBytes (layoutNumber ∷ (list ++ (master ∷ [])))
 
 unfoldable pub readHead : List ℕ → ℕ → Imaged
-readHead list master = headRead (allBytes list) master
+readHead list master = headRead (headBytes list master)

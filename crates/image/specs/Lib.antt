@@ -1,3 +1,4 @@
 pub mod Layout
 pub mod Read
 pub mod Image
+pub mod inner

@@ -45,27 +45,25 @@ unfoldable pub countedAt : RowKind → Source → Setup → ℕ → RowsRead
 countedAt kind src setup at =
     withRows (numberIn src 0 rowsMost at) setup (λ n next. rowsAt kind src n 0 (withCount setup kind n) next)
 
--- a sheet's head: the edition, and the rows of both kinds
-unfoldable pub tablesAt : Source → ℕ → RowsRead
-tablesAt src at =
-    let levels = countedAt Levels src noRows at in
-    thenRows (levels .part) (levels .setup) (λ second. countedAt Slaves src (levels .setup) second)
-
-unfoldable pub headAt : Source → ℕ → RowsRead
-headAt src at = withRows (numberIn src newestEdition newestEdition at) noRows (λ edition first. tablesAt src first)
-
--- the length of the master store after it
+-- the rows of both kinds, and the length of the master store
 abbrev pub withMaster : Setup → ℕ → Setup
 withMaster setup length = record { levels = setup .levels; slaves = setup .slaves; master = length }
 
-unfoldable pub masterAt : Source → RowsRead → RowsRead
-masterAt src rows =
-    thenRows (rows .part) (rows .setup) (λ last.
-    withRows (src last) (rows .setup) (λ length end. rowsRead (withMaster (rows .setup) length) (Good end)))
+unfoldable pub tablesAt : Source → ℕ → RowsRead
+tablesAt src at =
+    let levels = countedAt Levels src noRows at in
+    thenRows (levels .part) noRows (λ second.
+    let both = countedAt Slaves src (levels .setup) second in
+    thenRows (both .part) noRows (λ third.
+    withRows (src third) noRows (λ length end. rowsRead (withMaster (both .setup) length) (Good end))))
 
--- the set-up's part of an image
+-- a sheet's head, which is the edition and the rows, and the length of the master store after it
+unfoldable pub headAt : Source → ℕ → RowsRead
+headAt src at = withRows (numberIn src newestEdition newestEdition at) noRows (λ edition first. tablesAt src first)
+
+-- the set-up's part of an image; of a malformed one nothing was read
 unfoldable pub setupAt : Source → RowsRead
-setupAt src = withRows (numberIn src layoutNumber layoutNumber 0) noRows (λ layout first. masterAt src (headAt src first))
+setupAt src = withRows (numberIn src layoutNumber layoutNumber 0) noRows (λ layout first. headAt src first)
 
 -- the phase by its number
 abbrev pub phaseOf : ℕ → Phase
@@ -138,12 +136,13 @@ requestsAt src (suc more) l ch at =
     requestsAt src more (l + 1) (withRequest ch l (requestFrom left (numbers src 4 next))) end)))
 
 -- the channel's part of an image that is `len` long: nothing follows it
-abbrev pub ended : ℕ → Channel → ℕ → ChannelRead
-ended len ch at = cond (ltb at len) (channelRead ch (Fault (refusalBy 18) at)) (channelRead ch (Good at))
+abbrev pub ended : ℕ → ℕ → Part
+ended len at = cond (ltb at len) (Fault (refusalBy 18) at) (Good at)
+
+abbrev pub closed : ℕ → ChannelRead → ChannelRead
+closed len all = thenState (all .part) (all .channel) (λ end. channelRead (all .channel) (ended len end))
 
 unfoldable pub channelPartAt : Source → ℕ → ℕ → ChannelRead
 channelPartAt src len at =
     let state = stateAt src at in
-    thenState (state .part) (state .channel) (λ next.
-    let all = requestsAt src places 0 (state .channel) next in
-    thenState (all .part) (all .channel) (λ end. ended len (all .channel) end))
+    thenState (state .part) (state .channel) (λ next. closed len (requestsAt src places 0 (state .channel) next))

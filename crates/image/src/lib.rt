@@ -1,9 +1,11 @@
 // The image (document 02, CR 1): a set-up and a channel as one row of seven-bit numbers, read and written. Here the shape of
 // an image is judged (18); whether what was read makes sense (9) is judged by the call that is handed it.
-// `rows` reads the set-up's part, `states` the channel's, `lists` has the numbers of both.
+// `tables` reads the set-up's part, by `rows`, and `states` the channel's; `lists` has the set-up's numbers, and `writing` lays the
+// channel's bytes.
 mod lists;
 mod rows;
 mod states;
+mod tables;
 mod writing;
 
 use channel::Asked;
@@ -16,12 +18,12 @@ use number::NumberWritten;
 use numbers::Part;
 use refusal::Refusal;
 use refusal::Verdict;
-use rows::no_setup;
-use rows::read_head_at;
-use rows::read_setup_at;
 use sheet::RowsRead;
 use states::no_channel;
 use states::read_channel_at;
+use tables::no_setup;
+use tables::read_setup_at;
+use writing::put_head;
 ghost use mathlib.Core.Path.{_≡_};
 ghost use Prim.Native.Nat.{_≤_};
 ghost use Rattle.basics.specs.Limits.{rowsMost};
@@ -40,10 +42,10 @@ pub const EDITION: u32 = 1;
 // The longest image there is.
 pub const IMAGE_MOST: usize = 409;
 
-// The most numbers of a head, the bytes that these have at most, and the most numbers of a channel's part and of an image.
+// The most numbers of a head, the bytes that the set-up's part has at most, and the most numbers of a channel's part and of an image.
 const HEAD_NUMBERS: usize = 131;
 
-const HEAD_BYTES: usize = 655;
+const SETUP_BYTES: usize = 665;
 
 const CHANNEL_NUMBERS: usize = 85;
 
@@ -73,7 +75,7 @@ pub fn read_setup(bytes: &[u8], n: usize) -> RowsRead
     ensures { λ r. ⌜ r ≡ readSetup (now (bytes .entry)) n ⌝ }
 {
     if bytes.len() < n {
-        return no_setup(Refusal::Malformed, 0);
+        return no_setup(Part::Fault(Refusal::Malformed, 0));
     }
     read_setup_at(&bytes[..n])
 }
@@ -159,11 +161,11 @@ pub fn write_image(setup: Setup, channel: Channel, out: &mut [u8]) -> NumberWrit
     }
 }
 
-// The set-up of a head in bytes that are nothing more, and the channel after set-up.
-fn head_read(bytes: &[u8], master: u32) -> Imaged
-    ensures { λ r. ⌜ r ≡ headRead (now (bytes .entry)) master ⌝ }
+// The set-up's part of an image in bytes that are nothing more, and the channel after set-up.
+fn head_read(bytes: &[u8]) -> Imaged
+    ensures { λ r. ⌜ r ≡ headRead (now (bytes .entry)) ⌝ }
 {
-    let rows = read_head_at(bytes, 0);
+    let rows = read_setup(bytes, bytes.len());
     let part = rows.part;
     let Part::Good(end) = part else {
         return malformed();
@@ -171,8 +173,7 @@ fn head_read(bytes: &[u8], master: u32) -> Imaged
     if end < bytes.len() {
         return malformed();
     }
-    let mut setup = rows.setup;
-    setup.master = master;
+    let setup = rows.setup;
     let channel = channel::fresh_channel();
     let verdict = Verdict::Accepted;
     Imaged {
@@ -190,10 +191,7 @@ pub fn read_head(list: &[u32], master: u32) -> Imaged
     if HEAD_NUMBERS < list.len() {
         return malformed();
     }
-    let mut bytes = [0u8; HEAD_BYTES];
-    let written = numbers::write_numbers(list, &mut bytes, 0);
-    match written {
-        NumberWritten::Refused(_) => malformed(),
-        NumberWritten::Past(n) => head_read(&bytes[..n], master),
-    }
+    let mut bytes = [0u8; SETUP_BYTES];
+    let length = put_head(&mut bytes, list, master);
+    head_read(&bytes[..length])
 }

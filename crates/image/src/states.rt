@@ -2,11 +2,13 @@
 use crate::AskedRead;
 use crate::ChannelRead;
 use crate::rows::number_in;
+use crate::rows::part_of;
 use basics::PLACES;
 use basics::PLACES_U32;
 use channel::Asked;
 use channel::Channel;
 use channel::Phase;
+use channel::Request;
 use number::NumberRead;
 use numbers::Part;
 use refusal::Refusal;
@@ -17,8 +19,16 @@ ghost use Rattle.basics.specs.Limits.{places};
 ghost use Rattle.number.specs.Number.{readNumber};
 ghost use Rattle.numbers.specs.declared.Part.the-variants.{Good, Fault};
 ghost use Rattle.channel.specs.declared.Asked.the-variants.{Never};
-ghost use Rattle.channel.specs.Channel.{freshChannel, changed};
-ghost use Rattle.image.specs.Read.{phaseOf, marksOf, askedRead, timeAt, askedAt, channelRead, marksAt, ownerAt, stateAt, requestsAt, channelPartAt};
+ghost use Rattle.channel.specs.Channel.{freshChannel, noRequest, changed};
+ghost use Rattle.image.specs.Read.{phaseOf, marksOf, askedRead, timeAt, askedAt, channelRead, marksAt, ownerAt, stateAt, requestsAt};
+ghost use Rattle.image.specs.Read.{ended, closed, channelPartAt};
+ghost use Rattle.image.specs.inner.Rows.{partOf, requestRead, readRequest};
+
+// A request that was read, or none, and the part of the image that it is.
+pub(crate) struct RequestRead {
+    pub request: Request,
+    pub part: Part,
+}
 
 // One mark for each place.
 const MARKS_MOST: u32 = 65535;
@@ -160,44 +170,89 @@ fn read_state(bytes: &[u8], at: usize) -> ChannelRead
     }
 }
 
-// The requests, laid into a channel that has none. A place without one stays as it is.
-fn read_requests(bytes: &[u8], first: Channel, at: usize) -> ChannelRead
-    ensures { λ r. ⌜ r ≡ requestsAt (readNumber (now (bytes .entry))) places 0 first at ⌝ }
+// No request, as one of its numbers isn't there.
+fn no_request(got: NumberRead) -> RequestRead
+    ensures { λ r. ⌜ r ≡ requestRead noRequest (partOf got) ⌝ }
 {
-    let no_list = [0u32; 1];
+    let request = channel::no_request();
+    let part = part_of(got);
+    RequestRead { request, part }
+}
+
+// A request by the bytes that are left of it, and its other numbers from a place on.
+fn read_request(bytes: &[u8], left: u32, at: usize) -> RequestRead
+    ensures { λ r. ⌜ r ≡ readRequest (readNumber (now (bytes .entry))) left at ⌝ }
+{
+    let first = number::read_number(bytes, at);
+    let NumberRead::Number(direction, second) = first else {
+        return no_request(first);
+    };
+    let next = number::read_number(bytes, second);
+    let NumberRead::Number(space, third) = next else {
+        return no_request(next);
+    };
+    let more = number::read_number(bytes, third);
+    let NumberRead::Number(address, fourth) = more else {
+        return no_request(more);
+    };
+    let last = number::read_number(bytes, fourth);
+    let NumberRead::Number(offset, end) = last else {
+        return no_request(last);
+    };
+    let request = Request {
+        direction,
+        space,
+        address,
+        left,
+        offset,
+    };
+    let part = Part::Good(end);
+    RequestRead { request, part }
+}
+
+// The part that ends here, of an image so long: nothing may follow it.
+fn ended(length: usize, end: usize) -> Part
+    ensures { λ r. ⌜ r ≡ ended length end ⌝ }
+{
+    if end < length {
+        return Part::Fault(Refusal::Malformed, end);
+    }
+    Part::Good(end)
+}
+
+// The requests, laid into a channel that has none, and the end of the image. A place without one stays as it is.
+fn read_requests(bytes: &[u8], first: Channel, at: usize) -> ChannelRead
+    ensures { λ r. ⌜ r ≡ closed (length (now (bytes .entry))) (requestsAt (readNumber (now (bytes .entry))) places 0 first at) ⌝ }
+{
     let mut channel = first;
     let mut level: usize = 0;
     let mut place = at;
     while level < PLACES {
         let got = number::read_number(bytes, place);
-        match got {
-            NumberRead::Refused(why, p) => {
-                let part = Part::Fault(why, p);
+        let NumberRead::Number(left, next) = got else {
+            let part = part_of(got);
+            return ChannelRead { channel, part };
+        };
+        if left == 0 {
+            place = next;
+            level += 1;
+        } else {
+            let read = read_request(bytes, left, next);
+            let part = read.part;
+            let Part::Good(end) = part else {
                 return ChannelRead { channel, part };
-            }
-            NumberRead::Number(left, next) => {
-                if left == 0 {
-                    place = next;
-                    level += 1;
-                } else {
-                    let rest = numbers::numbers_at(bytes, &no_list, false, 4, next);
-                    let part = rest.part;
-                    let Part::Good(end) = part else {
-                        return ChannelRead { channel, part };
-                    };
-                    let values = rest.values;
-                    channel.direction[level] = values[0];
-                    channel.space[level] = values[1];
-                    channel.address[level] = values[2];
-                    channel.left[level] = left;
-                    channel.offset[level] = values[3];
-                    place = end;
-                    level += 1;
-                }
-            }
+            };
+            let request = read.request;
+            channel.direction[level] = request.direction;
+            channel.space[level] = request.space;
+            channel.address[level] = request.address;
+            channel.left[level] = request.left;
+            channel.offset[level] = request.offset;
+            place = end;
+            level += 1;
         }
     }
-    let part = Part::Good(place);
+    let part = ended(bytes.len(), place);
     ChannelRead { channel, part }
 }
 
@@ -211,15 +266,5 @@ pub(crate) fn read_channel_at(bytes: &[u8], at: usize) -> ChannelRead
         return state;
     };
     let channel = state.channel;
-    let all = read_requests(bytes, channel, next);
-    let last = all.part;
-    let Part::Good(end) = last else {
-        return all;
-    };
-    if end < bytes.len() {
-        let channel = all.channel;
-        let part = Part::Fault(Refusal::Malformed, end);
-        return ChannelRead { channel, part };
-    }
-    all
+    read_requests(bytes, channel, next)
 }

@@ -1,40 +1,39 @@
 -- By how the count was read. Assumes nothing.
 use borrow.Author.Needs.{needs}
 use denote.Ref.{now}
-use mathlib.Core.Path.{ap, _∙_}
+use mathlib.Core.Path.{ap₂, _∙_}
 use Rattle.basics.specs.Limits.{rowsMost}
 use Rattle.refusal.specs.declared.Refusal.the-variants.{Malformed}
 use Rattle.number.specs.Number.{readNumber}
-use Rattle.numbers.specs.declared.Part.the-variants.{Fault}
+use Rattle.numbers.specs.declared.Part.{Part}
 use Rattle.numbers.proofs.Laws.{at-most}
 use Rattle.frame.specs.declared.Setup.{Setup}
 use Rattle.frame.specs.declared.RowKind.the-variants.{Levels}
 use Rattle.frame.specs.Kind.{noRows, withLevels}
 use Rattle.sheet.specs.Sheet.{rowsRead}
 use Rattle.image.proofs.TurnLaws.{counted-fault, counted-on}
-use Rattle.image.proofs.rows.counted_levels.Statement.{statement}
-use Rattle.image.proofs.rows.counted_levels.Tie as tie
-
-read-levels-requires : tie.Need-read-levels-requires
-read-levels-requires c κs =
-    let three = c .before .before .before in
-    let a = three .before .before .args in
-    at-most (readNumber (now (a .bytes))) 0 rowsMost Malformed (a .at) (three .number-in .ensures) (c .before .got2 .given .1)
+use Rattle.image.proofs.tables.counted_levels.Statement.{statement}
+use Rattle.image.proofs.tables.counted_levels.Tie as tie
 
 returns : tie.Need-returns
 returns c =
     let five = c .before .before .before .before .before in
     let a = five .before .before .args in
-    let g = c .before .before .before .got .given .0 in
-    ap (λ (s : Setup). rowsRead (withLevels noRows (s .levels)) (Fault (g .0) (g .1 .0))) (c .before .no-rows .ensures)
-    ∙ counted-fault (readNumber (now (a .bytes))) Levels noRows (a .at) (five .number-in .ensures) (c .before .before .before .got .given .1)
+    ap₂ (λ (s : Setup) (part : Part). rowsRead (withLevels noRows (s .levels)) part) (c .before .before .no-rows .ensures) (c .part-of .ensures)
+    ∙ counted-fault (readNumber (now (a .bytes))) Levels noRows (a .at) (five .number-in .ensures) (c .before .before .before .enum-told .given .1)
+
+read-levels-requires : tie.Need-read-levels-requires
+read-levels-requires c κs =
+    let three = c .before .before .before in
+    let a = three .before .before .args in
+    at-most (readNumber (now (a .bytes))) 0 rowsMost Malformed (a .at) (three .number-in .ensures) (c .before .got .given .1)
 
 returns-2 : tie.Need-returns-2
 returns-2 c =
     let four = c .before .before .before .before in
     let a = four .before .before .args in
     c .read-levels .ensures
-    ∙ counted-on (readNumber (now (a .bytes))) Levels noRows (a .at) (four .number-in .ensures) (c .before .before .got2 .given .1)
+    ∙ counted-on (readNumber (now (a .bytes))) Levels noRows (a .at) (four .number-in .ensures) (c .before .before .got .given .1)
 
 pub counted-levels-spec : {M : Type 1} → statement M
 counted-levels-spec =
@@ -42,9 +41,10 @@ counted-levels-spec =
     (tie.spec
     (λ c κs. search needs)  -- number-in-requires
     (λ c. search needs)  -- enum-known-got
+    (λ c. search needs)  -- enum-told
     (λ c κs. search needs)  -- no-rows-requires
-    (λ c. search needs)  -- enum-known-got-2
+    (λ c κs. search needs)  -- part-of-requires
+    returns
     (λ c. search needs)  -- cast-read-levels
     read-levels-requires
-    returns
     returns-2)

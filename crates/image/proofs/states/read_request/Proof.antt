@@ -1,0 +1,65 @@
+-- Number by number, by what stands there. Assumes nothing.
+use borrow.Author.Needs.{needs}
+use mathlib.Core.Path.{sym, _∙_}
+use Rattle.image.proofs.states.read_request.Statement.{statement}
+use Rattle.image.proofs.states.read_request.Tie as tie
+
+returns : tie.Need-returns
+returns c =
+    let one = c .before .before .before in
+    c .no-request .ensures ∙ rw (c .before .enum-told .given .1, sym (one .read-number .ensures) ∙ c .before .enum-told .given .1)
+
+returns-2 : tie.Need-returns-2
+returns-2 c =
+    let one = c .before .before .before in
+    let two = one .before .before .before .before in
+    c .no-request2 .ensures ∙ rw (c .before .enum-told2 .given .1, sym (two .read-number .ensures) ∙ one .before .before .first .given .1, sym (one .read-number2 .ensures) ∙ c .before .enum-told2 .given .1)
+
+returns-3 : tie.Need-returns-3
+returns-3 c =
+    let one = c .before .before .before in
+    let two = one .before .before .before .before in
+    let three = two .before .before .before .before in
+    c .no-request3 .ensures ∙ rw (c .before .enum-told3 .given .1, sym (three .read-number .ensures) ∙ two .before .before .first .given .1, sym (two .read-number2 .ensures) ∙ one .before .before .next .given .1, sym (one .read-number3 .ensures) ∙ c .before .enum-told3 .given .1)
+
+returns-4 : tie.Need-returns-4
+returns-4 c =
+    let one = c .before .before .before in
+    let two = one .before .before .before .before in
+    let three = two .before .before .before .before in
+    let four = three .before .before .before .before in
+    c .no-request4 .ensures ∙ rw (c .before .enum-told4 .given .1, sym (four .read-number .ensures) ∙ three .before .before .first .given .1, sym (three .read-number2 .ensures) ∙ two .before .before .next .given .1, sym (two .read-number3 .ensures) ∙ one .before .before .more .given .1, sym (one .read-number4 .ensures) ∙ c .before .enum-told4 .given .1)
+
+returns-5 : tie.Need-returns-5
+returns-5 c =
+    let one = c .before .before .before in
+    let two = one .before .before .before .before in
+    let three = two .before .before .before .before in
+    let four = three .before .before .before .before in
+    rw (sym (four .read-number .ensures) ∙ three .before .before .first .given .1, sym (three .read-number2 .ensures) ∙ two .before .before .next .given .1, sym (two .read-number3 .ensures) ∙ one .before .before .more .given .1, sym (one .read-number4 .ensures) ∙ c .before .last .given .1)
+
+pub read-request-spec : {M : Type 1} → statement M
+read-request-spec =
+    tie.close
+    (tie.spec
+    (λ c κs. search needs)  -- read-number-requires
+    (λ c. search needs)  -- enum-known-first
+    (λ c. search needs)  -- enum-told
+    (λ c κs. search needs)  -- no-request-requires
+    returns
+    (λ c κs. search needs)  -- read-number-requires-2
+    (λ c. search needs)  -- enum-known-next
+    (λ c. search needs)  -- enum-told-2
+    (λ c κs. search needs)  -- no-request-requires-2
+    returns-2
+    (λ c κs. search needs)  -- read-number-requires-3
+    (λ c. search needs)  -- enum-known-more
+    (λ c. search needs)  -- enum-told-3
+    (λ c κs. search needs)  -- no-request-requires-3
+    returns-3
+    (λ c κs. search needs)  -- read-number-requires-4
+    (λ c. search needs)  -- enum-known-last
+    (λ c. search needs)  -- enum-told-4
+    (λ c κs. search needs)  -- no-request-requires-4
+    returns-4
+    returns-5)
