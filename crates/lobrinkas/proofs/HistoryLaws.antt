@@ -394,8 +394,8 @@ set-up-made memory head master zero-is = by (readHead head master .verdict) refl
         (λ none. let z : _≡_ {A = ℕ} 17 0 = rw (v, t, none) at zero-is in absurd (omega arith)))
         (λ f. let z : _≡_ {A = ℕ} 9 0 = rw (v, f) at zero-is in absurd (omega arith))
 
--- A first image, of numbers up to 4,294,967,295 as those of C are.
-module _ (memory head : List ℕ) (n : ℕ) (slave master : List ℕ) (fit : Numbers head) (accepted : lobrinkasSetUp memory head n .result .refusal ≡ 0) where
+-- A first image.
+module _ (memory head : List ℕ) (n : ℕ) (slave master : List ℕ) (accepted : lobrinkasSetUp memory head n .result .refusal ≡ 0) where
   made : SetUpMade memory head n
   made = set-up-made memory head n accepted
 
@@ -403,7 +403,7 @@ module _ (memory head : List ℕ) (n : ℕ) (slave master : List ℕ) (fit : Num
   head-is = λ i. imaged (readHead head n .setup) (readHead head n .channel) (made .read i)
 
   first-whole : Whole (readHead head n .setup)
-  first-whole = record { framed = made .framed; wide = head-read head n fit head-is .wide; tidy = head-tidied head n fit head-is }
+  first-whole = record { framed = made .framed; wide = head-read head n head-is .wide; tidy = head-tidied head n head-is }
 
   first-stands : Stands (readHead head n .setup) (setUpWith slave master) (firstMachine memory head n slave master)
   first-stands =

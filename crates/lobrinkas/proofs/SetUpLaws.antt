@@ -11,9 +11,7 @@ use lib.Dec.{ltb}
 use Rattle.basics.proofs.Tests.{by-test}
 use Rattle.refusal.specs.declared.Refusal.{Refusal}
 use Rattle.refusal.specs.declared.Verdict.the-variants.{Accepted, Refused}
-use Rattle.number.specs.Number.{readNumber}
 use Rattle.number.proofs.Laws.{whole, not-whole}
-use Rattle.numbers.specs.Numbers.{allBytes}
 use Rattle.numbers.specs.declared.Part.{Part}
 use Rattle.numbers.specs.declared.Part.the-variants.{Good, Fault}
 use Rattle.frame.specs.declared.Setup.{Setup}
@@ -24,8 +22,7 @@ use Rattle.sound.specs.Sound.{isSound}
 use Rattle.demands.proofs.DemandLaws.{fresh-start}
 use Rattle.image.specs.declared.Imaged.{Imaged}
 use Rattle.image.specs.Layout.{imageBytes}
-use Rattle.image.specs.Read.{headAt}
-use Rattle.image.specs.Image.{malformed, thenImage, headRead, readHead, writeImage, writeImageAfter}
+use Rattle.image.specs.Image.{malformed, thenImage, readSetup, headRead, headBytes, readHead, writeImage, writeImageAfter}
 use Rattle.lobrinkas.specs.Answers.{refusedAnswer}
 use Rattle.lobrinkas.specs.Calls.{answering, hasImageRoom, answerBy, lobrinkasSetUp}
 use Rattle.lobrinkas.specs.inner.Finish.{setUpFinished}
@@ -42,7 +39,8 @@ fresh-if false i e = e
 head-fresh : (list : List ℕ) (master : ℕ) → readHead list master .channel ≡ freshChannel
 unfolding readHead headRead
 head-fresh list master =
-    fresh-by (headAt (readNumber (allBytes list)) 0 .part) _ (λ end. fresh-if (ltb end (length (allBytes list))) _ refl)
+    let bytes = headBytes list master in
+    fresh-by (readSetup bytes (length bytes) .part) _ (λ end. fresh-if (ltb end (length bytes)) _ refl)
 
 module _ (setup : Setup) (image : List ℕ) where
   sound : isSound setup freshChannel ≡ true
