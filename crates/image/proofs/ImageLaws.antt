@@ -42,15 +42,6 @@ pub laid-front : (out list : List ℕ) (count : ℕ) {after : List ℕ} → leng
 laid-front out list count room e a =
     rw (a, e) (ap (take (length list)) (sets-eq list out 0 (omega arith)) ∙ take-append-seam list (drop (0 + length list) out))
 
--- two lists laid one after the other, and that the longer list has them at its start
-pub both-laid : (out a b : List ℕ) {mid count : ℕ} {upper after : List ℕ} → length a + length b ≤ length out → mid ≡ length a
-    → upper ≡ sets out 0 a → count ≡ mid + length b → after ≡ sets upper mid b → take count after ≡ a ++ b
-both-laid out a b {mid} {count} {upper} {after} room m u c l =
-    let size = length-append a b in
-    let place : mid ≡ 0 + length a = omega arith in
-    let laid : after ≡ sets out 0 (a ++ b) = l ∙ rw (u, place) (sym (sets-append a b out 0)) in
-    laid-front out (a ++ b) count (omega arith) (omega arith) laid
-
 -- the set-up of a head, by how its numbers were read
 module _ (bytes : List ℕ) {rows : RowsRead} (is : rows ≡ readSetup bytes (length bytes)) where
   pub head-none : {why : Refusal} {p : ℕ} → rows .part ≡ Fault why p → malformed ≡ headRead bytes

@@ -1,16 +1,13 @@
--- The numbers of a channel laid one after the other into a list, one more at a time. Assumes nothing.
+-- The numbers of a set-up laid one after the other into a list, one more at a time. Assumes nothing.
 use Prim.Native.Nat.{ℕ, zero, suc, _+_, _*_, _≤_}
-use mathlib.Core.Path.{_≡_, refl, sym, ap, _∙_}
+use mathlib.Core.Path.{_≡_, sym, ap, _∙_}
 use mathlib.Core.List.{List, [], _∷_, _++_}
 use native.Mathlib.Nat.{zero-mul, min-eq-left}
 use native.Mathlib.Numerals.{add-one}
 use native.Mathlib.Omega.{arith}
-use borrow.Author.Tests.{eq-eqb, ne-eqb, eqb-true, eqb-false}
-use lib.Dec.{eqb}
-use Rattle.basics.proofs.Tests.{by-test}
-use lib.ListN.{length, getD, set, length-append}
+use lib.ListN.{length, set, length-append}
 use lib.Seq.{sets}
-use Rattle.basics.specs.Limits.{places, rowsMost}
+use Rattle.basics.specs.Limits.{rowsMost}
 use Rattle.numbers.proofs.Laws.{sets-append}
 use Rattle.frame.specs.declared.LevelRow.{LevelRow}
 use Rattle.frame.specs.declared.SlaveRow.{SlaveRow}
@@ -19,21 +16,7 @@ use Rattle.frame.specs.declared.RowKind.{RowKind}
 use Rattle.frame.specs.declared.RowKind.the-variants.{Levels, Slaves}
 use Rattle.frame.specs.Frame.{levelAt, slaveAt, rowsPresent}
 use Rattle.frame.specs.Kind.{rowSize, rowCount}
-use Rattle.channel.specs.declared.Asked.{Asked}
-use Rattle.channel.specs.declared.Asked.the-variants.{Never, At}
-use Rattle.channel.specs.declared.Channel.{Channel}
-use Rattle.image.specs.Layout.{
-  layoutNumber,
-  newestEdition,
-  rowsNumbers,
-  headNumbers,
-  setupNumbers,
-  phaseNumber,
-  askedNumbers,
-  marksNumber,
-  requestsNumbers,
-  channelNumbers,
-}
+use Rattle.image.specs.Layout.{layoutNumber, newestEdition, rowsNumbers, headNumbers, setupNumbers}
 
 -- the next places of a list, as `sets` counts them
 two : (at : ℕ) → at + 2 ≡ suc (suc at)
@@ -84,76 +67,6 @@ module _ (setup : Setup) (kind : RowKind) (i : ℕ) {left k : ℕ} (more : left 
 pub rows-done : (setup : Setup) (kind : RowKind) (i : ℕ) {left : ℕ} → left ≡ 0 → rowsNumbers setup kind left i ≡ []
 rows-done setup kind i none = rw none
 
--- one more place is due
-module _ (ch : Channel) (l : ℕ) {left k : ℕ} (more : left ≡ suc k) where
-  module _ (none : getD (ch .left) l 0 ≡ 0) where
-    pub none-laid : (out : List ℕ) (at : ℕ) → sets (set out at 0) (at + 1) (requestsNumbers ch k (l + 1)) ≡ sets out at (requestsNumbers ch left l)
-    unfolding requestsNumbers
-    none-laid out at = rw (more, eq-eqb (getD (ch .left) l 0) 0 none, add-one)
-
-    pub none-size : length (requestsNumbers ch left l) ≡ 1 + length (requestsNumbers ch k (l + 1))
-    unfolding requestsNumbers
-    none-size = rw (more, eq-eqb (getD (ch .left) l 0) 0 none) (omega arith)
-
-  module _ (some : getD (ch .left) l 0 ≡ 0 → ⊥) where
-    pub some-laid : (out : List ℕ) (at : ℕ)
-        → sets
-        (set
-        (set
-        (set (set (set out at (getD (ch .left) l 0)) (at + 1) (getD (ch .direction) l 0)) (at + 2) (getD (ch .space) l 0))
-        (at + 3)
-        (getD (ch .address) l 0))
-        (at + 4)
-        (getD (ch .offset) l 0))
-        (at + 5)
-        (requestsNumbers ch k (l + 1))
-        ≡ sets out at (requestsNumbers ch left l)
-    unfolding requestsNumbers
-    some-laid out at = rw (more, ne-eqb (getD (ch .left) l 0) 0 some, add-one, two at, three at, four at, five at)
-
-    pub some-size : length (requestsNumbers ch left l) ≡ 5 + length (requestsNumbers ch k (l + 1))
-    unfolding requestsNumbers
-    some-size = rw (more, ne-eqb (getD (ch .left) l 0) 0 some) (omega arith)
-
--- none is due
-pub laid-done : (ch : Channel) (l : ℕ) {left : ℕ} → left ≡ 0 → requestsNumbers ch left l ≡ []
-unfolding requestsNumbers
-laid-done ch l none = rw none
-
--- the asked time has two numbers at most
-pub asked-most : (asked : Asked) → length (askedNumbers asked) ≤ 2
-asked-most Never = omega arith
-asked-most (At time) = omega arith
-
--- the whole channel: clock, owner, asked time, marks and requests, each after the other
-module _ (ch : Channel) (out : List ℕ) (at : ℕ) where
-  abbrev headLaid : List ℕ
-  headLaid = sets (set (set out at (ch .clock)) (at + 1) (phaseNumber (ch .phase))) (at + 2) (askedNumbers (ch .asked))
-
-  pub channel-laid : (next : ℕ) → next ≡ at + 2 + length (askedNumbers (ch .asked))
-      → sets (set headLaid next (marksNumber (ch .inactive))) (next + 1) (requestsNumbers ch places 0) ≡ sets out at (channelNumbers ch)
-  unfolding channelNumbers
-  channel-laid next e =
-      let next-is : next ≡ suc (suc at) + length (askedNumbers (ch .asked)) = omega arith in
-      rw (next-is, two at, add-one at, add-one (suc (suc at) + length (askedNumbers (ch .asked))))
-      (sym (sets-append (askedNumbers (ch .asked)) (marksNumber (ch .inactive) ∷ requestsNumbers ch places 0)
-      (set (set out at (ch .clock)) (suc at) (phaseNumber (ch .phase))) (suc (suc at))))
-
-  pub channel-size : (next end : ℕ) → next ≡ at + 2 + length (askedNumbers (ch .asked)) → end ≡ next + 1 + length (requestsNumbers ch places 0)
-      → end ≡ at + length (channelNumbers ch)
-  unfolding channelNumbers
-  channel-size next end e f =
-      let both = length-append (askedNumbers (ch .asked)) (marksNumber (ch .inactive) ∷ requestsNumbers ch places 0) in
-      omega (arith, e, f, both)
-
-  -- the same by what each part left
-  pub channel-all : {p n next : ℕ} {laid last : List ℕ} → p ≡ phaseNumber (ch .phase) → n ≡ marksNumber (ch .inactive)
-      → next ≡ at + 2 + length (askedNumbers (ch .asked))
-      → laid ≡ sets (set (set out at (ch .clock)) (at + 1) p) (at + 2) (askedNumbers (ch .asked))
-      → last ≡ sets (set laid next n) (next + 1) (requestsNumbers ch places 0)
-      → last ≡ sets out at (channelNumbers ch)
-  channel-all {next = next} p-is n-is e laid-is last-is = rw (last-is, laid-is, n-is, p-is) (channel-laid next e)
-
 -- each row of a kind has as many numbers as the kind says
 pub rows-size : (setup : Setup) (kind : RowKind) (left i : ℕ) → length (rowsNumbers setup kind left i) ≡ left * rowSize kind
 rows-size setup kind zero i = sym (zero-mul (rowSize kind))
@@ -196,20 +109,6 @@ module _ (setup : Setup) (out : List ℕ) (few : rowCount setup Levels ≤ rowsM
     setup-size =
         let both = levelsOf ++ (rowCount setup Slaves ∷ slavesOf) in
         omega (arith, m, e, length-append levelsOf (rowCount setup Slaves ∷ slavesOf), length-append both (setup .master ∷ []), ap length setup-is)
-
--- a place has five numbers at most, and so a channel at most 85
-requests-most : (ch : Channel) (left l : ℕ) → length (requestsNumbers ch left l) ≤ 5 * left
-requests-most ch zero l = omega (arith, ap length (laid-done ch l {left = 0} refl))
-requests-most ch (suc left) l =
-    by-test (eqb (getD (ch .left) l 0) 0)
-    (λ t. omega (arith, none-size ch l {left = suc left} refl (eqb-true _ 0 t), requests-most ch left (l + 1)))
-    (λ f. omega (arith, some-size ch l {left = suc left} refl (eqb-false _ 0 f), requests-most ch left (l + 1)))
-
-pub channel-most : (ch : Channel) → length (channelNumbers ch) ≤ 5 + 5 * places
-unfolding channelNumbers
-channel-most ch =
-    let both = length-append (askedNumbers (ch .asked)) (marksNumber (ch .inactive) ∷ requestsNumbers ch places 0) in
-    omega (arith, both, asked-most (ch .asked), requests-most ch places 0)
 
 pub setup-most : (setup : Setup) → length (setupNumbers setup) ≤ 5 + 8 * rowsMost
 unfolding setupNumbers headNumbers

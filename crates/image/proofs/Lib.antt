@@ -1,7 +1,9 @@
 pub mod TurnLaws
 pub mod MarkLaws
 pub mod LayLaws
+pub mod WriteLaws
 pub mod ImageLaws
+pub mod PartLaws
 pub mod RowLaws
 pub mod Writable
 pub mod SetupSpelt

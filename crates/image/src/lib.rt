@@ -12,7 +12,6 @@ use channel::Asked;
 use channel::Channel;
 use frame::FramedStore;
 use frame::Setup;
-use lists::list_channel;
 use lists::list_setup;
 use number::NumberWritten;
 use numbers::Part;
@@ -23,7 +22,10 @@ use states::no_channel;
 use states::read_channel_at;
 use tables::no_setup;
 use tables::read_setup_at;
+use writing::put_bytes;
+use writing::put_channel;
 use writing::put_head;
+use writing::put_whole;
 ghost use mathlib.Core.Path.{_≡_};
 ghost use Prim.Native.Nat.{_≤_};
 ghost use Rattle.basics.specs.Limits.{rowsMost};
@@ -42,14 +44,14 @@ pub const EDITION: u32 = 1;
 // The longest image there is.
 pub const IMAGE_MOST: usize = 409;
 
-// The most numbers of a head, the bytes that the set-up's part has at most, and the most numbers of a channel's part and of an image.
+// The most numbers of a head and of the set-up's part, and the bytes that that part and the channel's have at most.
 const HEAD_NUMBERS: usize = 131;
+
+const SETUP_NUMBERS: usize = 133;
 
 const SETUP_BYTES: usize = 665;
 
-const CHANNEL_NUMBERS: usize = 85;
-
-const IMAGE_NUMBERS: usize = 218;
+const CHANNEL_BYTES: usize = 425;
 
 // A channel that was read, as far as that came, and the part of the image that it is.
 pub struct ChannelRead {
@@ -132,21 +134,31 @@ pub fn write_channel(channel: Channel, out: &mut [u8], at: usize) -> NumberWritt
     ensures { λ r. ⌜ r ≡ writeChannel channel (now (out .entry)) at ⌝ }
     ensures { λ _. ⌜ now (out .exit) ≡ writeChannelAfter channel (now (out .entry)) at ⌝ }
 {
-    let mut values = [0u32; CHANNEL_NUMBERS];
-    let count = list_channel(&mut values, 0, channel);
-    numbers::write_numbers(&values[..count], out, at)
+    let mut row = [0u8; CHANNEL_BYTES];
+    let count = put_channel(&mut row, 0, channel);
+    put_whole(&row[..count], out, at)
 }
 
-// Writes the image of a set-up and a channel that meet no 9.
+// Writes the image of a set-up and a channel that meet no 9: the channel's part first, which is whole or not at all, and then what stands before it.
 fn put_image(setup: Setup, channel: Channel, out: &mut [u8]) -> NumberWritten
     requires { ⌜ (rowCount setup Levels ≤ rowsMost) × (rowCount setup Slaves ≤ rowsMost) ⌝ }
     ensures { λ r. ⌜ r ≡ wholeAt (now (out .entry)) 0 (imageBytes setup channel) ⌝ }
     ensures { λ _. ⌜ now (out .exit) ≡ wholeAfter (now (out .entry)) 0 (imageBytes setup channel) ⌝ }
 {
-    let mut values = [0u32; IMAGE_NUMBERS];
-    let mid = list_setup(&mut values, setup);
-    let count = list_channel(&mut values, mid, channel);
-    numbers::write_numbers(&values[..count], out, 0)
+    let mut values = [0u32; SETUP_NUMBERS];
+    let mut row = [0u8; SETUP_BYTES];
+    let count = list_setup(&mut values, setup);
+    let written = numbers::write_numbers(&values[..count], &mut row, 0);
+    // there is room for it
+    let NumberWritten::Past(start) = written else {
+        return written;
+    };
+    let placed = write_channel(channel, out, start);
+    let NumberWritten::Past(end) = placed else {
+        return placed;
+    };
+    put_bytes(&row[..start], out, 0);
+    NumberWritten::Past(end)
 }
 
 // Writes an image at the start, whole or not at all.

@@ -9,8 +9,8 @@ use lib.ListN.{length, getD, drop, length-drop, drop-of-length-le}
 use Rattle.basics.specs.Limits.{places}
 use Rattle.image.specs.Layout.{marksNumber}
 use Rattle.image.proofs.MarkLaws.{marks-most, marks-from}
-use Rattle.image.proofs.lists.marks_number.Statement.{statement}
-use Rattle.image.proofs.lists.marks_number.Tie as tie
+use Rattle.image.proofs.writing.marks_number.Statement.{statement}
+use Rattle.image.proofs.writing.marks_number.Tie as tie
 
 abbrev Inv-loop : tie.InvT-loop
 Inv-loop marks sum₀ level₀ sum level = (level ≤ places) × (length marks ≡ places) × (sum ≡ marksNumber (drop level marks))

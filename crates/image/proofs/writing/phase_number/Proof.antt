@@ -1,6 +1,6 @@
 use borrow.Author.Needs.{needs}
-use Rattle.image.proofs.lists.phase_number.Statement.{statement}
-use Rattle.image.proofs.lists.phase_number.Tie as tie
+use Rattle.image.proofs.writing.phase_number.Statement.{statement}
+use Rattle.image.proofs.writing.phase_number.Tie as tie
 
 returns-2 : tie.Need-returns-2
 returns-2 c = rw (c .before .phase .given .1)
