@@ -1,7 +1,7 @@
 -- What an image says, by how its two parts were read; and a list of numbers laid at the start of a longer one. Assumes nothing.
 use Prim.Native.Nat.{ℕ, _+_, _*_, _≤_, _<_}
 use mathlib.Core.Path.{_≡_, sym, ap, _∙_}
-use mathlib.Core.List.{List, [], _∷_, _++_, append-nil}
+use mathlib.Core.List.{List, [], _∷_, _++_}
 use native.Mathlib.Omega.{arith}
 use borrow.Author.Tests.{lt-ltb, le-ltb}
 use lib.ListN.{length, take, drop, length-append}
@@ -12,13 +12,12 @@ use Rattle.numbers.specs.declared.Part.the-variants.{Good, Fault}
 use Rattle.sheet.specs.declared.RowsRead.{RowsRead}
 use Rattle.image.specs.declared.ChannelRead.{ChannelRead}
 use Rattle.channel.specs.Channel.{freshChannel}
-use Rattle.number.specs.Number.{bytesOf, wholeAt, wholeAfter}
+use Rattle.number.specs.Number.{wholeAt, wholeAfter}
 use Rattle.number.specs.declared.NumberWritten.{NumberWritten}
 use Rattle.number.specs.declared.NumberWritten.the-variants.{Past, Refused as NotWritten}
 use Rattle.number.proofs.Laws.{whole}
 use Rattle.numbers.specs.Numbers.{allBytes, writeNumbers, writeNumbersAfter}
-use Rattle.numbers.proofs.RoundTrip.{all-append}
-use Rattle.numbers.proofs.Laws.{sets-append, sizes-most, past-is, no-room}
+use Rattle.numbers.proofs.Laws.{sizes-most, past-is, no-room}
 use Rattle.image.specs.Layout.{layoutNumber}
 use Rattle.image.specs.Image.{readSetup, readChannel, imaged, malformed, readImage, headRead, headBytes}
 
@@ -74,32 +73,6 @@ module _ (list out : List ℕ) (at : ℕ) (room : at + 5 * length list ≤ lengt
   unfolding writeNumbersAfter
   list-laid left = left ∙ list-whole .1
 
--- the layout number, a list and the length of the master store, each laid after the other, are the bytes of a head
-module _ (list : List ℕ) (master : ℕ) where
-  head-parts : headBytes list master ≡ bytesOf layoutNumber ++ (allBytes list ++ bytesOf master)
-  head-parts =
-      ap (λ (x : List ℕ). bytesOf layoutNumber ++ x)
-      (all-append list (master ∷ []) ∙ ap (λ (x : List ℕ). allBytes list ++ x) (append-nil (bytesOf master)))
-
-  pub head-size : {first last end : ℕ} → first ≡ 0 + length (bytesOf layoutNumber) → last ≡ first + length (allBytes list)
-      → end ≡ last + length (bytesOf master) → end ≡ length (headBytes list master)
-  head-size f l e =
-      omega (
-        arith,
-        ap length head-parts,
-        length-append (bytesOf layoutNumber) (allBytes list ++ bytesOf master),
-        length-append (allBytes list) (bytesOf master),
-      )
-
-  pub head-laid : (out : List ℕ) {first last : ℕ} {a b c : List ℕ} → first ≡ 0 + length (bytesOf layoutNumber) → last ≡ first + length (allBytes list)
-      → a ≡ sets out 0 (bytesOf layoutNumber) → b ≡ sets a first (allBytes list) → c ≡ sets b last (bytesOf master)
-      → c ≡ sets out 0 (headBytes list master)
-  head-laid out f l a b c =
-      sym
-      (ap (sets out 0) head-parts
-      ∙ sets-append (bytesOf layoutNumber) (allBytes list ++ bytesOf master) out 0
-      ∙ sets-append (allBytes list) (bytesOf master) (sets out 0 (bytesOf layoutNumber)) (0 + length (bytesOf layoutNumber))
-      ∙ sym (c ∙ rw (b, a, l, f)))
-
-  pub head-most : length (headBytes list master) ≤ 5 * (2 + length list)
-  head-most = omega (arith, sizes-most (layoutNumber ∷ (list ++ (master ∷ []))), length-append list (master ∷ []))
+-- a head's numbers have five bytes each at most
+pub head-most : (list : List ℕ) (master : ℕ) → length (headBytes list master) ≤ 5 * (2 + length list)
+head-most list master = omega (arith, sizes-most (layoutNumber ∷ (list ++ (master ∷ []))), length-append list (master ∷ []))

@@ -2,12 +2,17 @@
 use borrow.Author.Needs.{needs}
 use Prim.Native.Nat.{_*_, _+_, _≤_}
 use denote.Ref.{now}
+use mathlib.Core.Path.{_∙_}
+use mathlib.Core.List.{[], _∷_, _++_}
+use native.Mathlib.Nat.{zero-add}
 use native.Mathlib.Omega.{arith}
 use lib.ListN.{length}
 use Rattle.number.proofs.Laws.{bytes-most}
 use Rattle.numbers.proofs.Laws.{sizes-most}
 use Rattle.image.specs.Layout.{layoutNumber}
-use Rattle.image.proofs.ImageLaws.{list-none, list-size, list-laid, head-size, head-laid}
+use Rattle.image.specs.Image.{headBytes}
+use Rattle.image.proofs.WriteLaws.{laid-one, laid-both, laid-more}
+use Rattle.image.proofs.ImageLaws.{list-none, list-size, list-laid}
 use Rattle.image.proofs.writing.put_head.Statement.{statement}
 use Rattle.image.proofs.writing.put_head.Tie as tie
 
@@ -37,10 +42,10 @@ returns c =
     let list = now (a .list) in
     let room : first .result + 5 * length list ≤ length (first .last .0) = omega (arith, bytes-most layoutNumber, first .ensures .0, first .kept) in
     let size = list-size list (first .last .0) (first .result) room (w .ensures .0) (five .written .given .1) in
-    let laid = list-laid list (first .last .0) (first .result) room (w .ensures .1) in (
-      head-size list (a .master) (first .ensures .0) size (last .ensures .0),
-      head-laid list (a .master) (now (a .row)) (first .ensures .0) size (first .ensures .1) laid (last .ensures .1),
-    )
+    let laid = list-laid list (first .last .0) (first .result) room (w .ensures .1) in
+    let rest = laid-both (first .last .0) (first .result) list (a .master ∷ []) (size, laid) (laid-one _ _ (a .master) (last .ensures)) in
+    let all = laid-more (now (a .row)) 0 layoutNumber (list ++ (a .master ∷ [])) (first .ensures) rest in
+    (all .0 ∙ zero-add (length (headBytes list (a .master))), all .1)
 
 returns-2 : tie.Need-returns-2
 returns-2 c =
