@@ -4,6 +4,7 @@ use refusal::Refusal;
 ghost use mathlib.Core.Path.{_≡_};
 ghost use Prim.Native.Nat.{_+_, _≤_, _<_};
 ghost use lib.ListN.{drop, length};
+ghost use lib.Dec.{leb};
 ghost use lib.Seq.{sets};
 ghost use Rattle.number.specs.Number.{groups, below, readNumber, bytesOf, writeNumber, writeNumberAfter, numberSize};
 
@@ -100,6 +101,16 @@ fn put_number(out: &mut [u8], at: usize, v: u32) -> usize
     i + 1
 }
 
+// Whether so much room is enough for a number. None has more than five bytes: they are counted only where there is less.
+fn has_room(room: usize, v: u32) -> bool
+    ensures { λ r. ⌜ r ≡ leb (numberSize v) room ⌝ }
+{
+    if 5 <= room {
+        return true;
+    }
+    number_size(v) <= room
+}
+
 // Writes a number from a place on, whole or not at all.
 pub fn write_number(out: &mut [u8], at: usize, v: u32) -> NumberWritten
     ensures { λ r. ⌜ r ≡ writeNumber (now (out .entry)) at v ⌝ }
@@ -113,13 +124,12 @@ pub fn write_number(out: &mut [u8], at: usize, v: u32) -> NumberWritten
         }
         return NumberWritten::Refused(Refusal::NoRoom);
     }
-    let size = number_size(v);
     if out.len() < at {
         return NumberWritten::Refused(Refusal::NoRoom);
     }
-    if out.len() - at < size {
-        return NumberWritten::Refused(Refusal::NoRoom);
+    if has_room(out.len() - at, v) {
+        let past = put_number(out, at, v);
+        return NumberWritten::Past(past);
     }
-    let past = put_number(out, at, v);
-    NumberWritten::Past(past)
+    NumberWritten::Refused(Refusal::NoRoom)
 }
