@@ -62,6 +62,26 @@ short-is : (v : Verdict) (setup : Setup) (ch : Channel) (t : Tally) (budget n : 
 short-is (Refused why) setup ch t budget n image slave master f = refl
 short-is Accepted setup ch t budget n image slave master f = by-test (ltb stepsMost budget) (λ b. rw b) (λ b. rw (b, f))
 
+-- a run of no steps is tested as any other, and does nothing
+none-by : (setup : Setup) (w : World) (v : Verdict) → runBy setup v 0 w ≡ stopped v 0 w
+unfolding runFrom
+none-by setup w (Refused why) = refl
+none-by setup w Accepted = refl
+
+none-run : (setup : Setup) (w : World) → runOf setup 0 w ≡ stopped (readyVerdict setup (w .channel) (length (w .slave)) (length (w .master))) 0 w
+unfolding runOf
+none-run setup w = none-by setup w (readyVerdict setup (w .channel) (length (w .slave)) (length (w .master)))
+
+pub none-done : (setup : Setup) (ch : Channel) (t : Tally) (slave master : List ℕ) {run : Run} {slaves masters : List ℕ}
+    → (run ≡ runOf setup 0 (world ch t slave master) .result)
+    × ((slaves ≡ runOf setup 0 (world ch t slave master) .slave) × (masters ≡ runOf setup 0 (world ch t slave master) .master))
+    → (run .verdict ≡ readyVerdict setup ch (length slave) (length master)) × ((slaves ≡ slave) × (masters ≡ master))
+none-done setup ch t slave master ran =
+    let none = none-run setup (world ch t slave master) in (
+      ap (λ (r : Run). r .verdict) (ran .0) ∙ ap (λ (o : Out). o .result .verdict) none,
+      (ran .1 .0 ∙ ap (λ (o : Out). o .slave) none, ran .1 .1 ∙ ap (λ (o : Out). o .master) none),
+    )
+
 module _ (setup : Setup) (ch : Channel) (image : List ℕ) (n : ℕ) (read : imaged setup ch Accepted ≡ readImage image n)
     (slave master : List ℕ) (t : Tally) (budget : ℕ) where
   pub run-short : length image < imageMost

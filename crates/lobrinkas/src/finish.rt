@@ -19,6 +19,7 @@ use step::Decision;
 use step::StepAnswer;
 use tally::Tally;
 ghost use mathlib.Core.Path.{_≡_};
+ghost use lib.ListN.{length};
 ghost use Rattle.lobrinkas.specs.Calls.{answering, stepping};
 ghost use Rattle.lobrinkas.specs.inner.Finish.{answerFinished, stepFinished, runFinished, shortRun, setUpFinished, runLeft};
 
@@ -93,17 +94,21 @@ pub(crate) fn finish_step(
     }
 }
 
-// Why a run over memory without room for the longest image is refused.
+// Why a run over memory without room for the longest image is refused. A run of no steps is tested as any other, and does nothing.
 pub(crate) fn short_run(
     setup: Setup,
     channel: Channel,
-    slave: usize,
-    master: usize,
+    tally: Tally,
+    slave: &mut [u8],
+    master: &mut [u8],
     steps: u32,
 ) -> Refusal
-    ensures { λ r. ⌜ r ≡ shortRun setup channel slave master steps ⌝ }
+    ensures { λ r. ⌜ r ≡ shortRun setup channel (length (now (slave .entry))) (length (now (master .entry))) steps ⌝ }
+    ensures { λ _. ⌜ now (slave .exit) ≡ now (slave .entry) ⌝ }
+    ensures { λ _. ⌜ now (master .exit) ≡ now (master .entry) ⌝ }
 {
-    let verdict = step::ready_verdict(setup, channel, slave, master);
+    let tried = step::run(setup, channel, tally, slave, master, 0);
+    let verdict = tried.verdict;
     match verdict {
         Verdict::Refused(why) => why,
         Verdict::Accepted => {

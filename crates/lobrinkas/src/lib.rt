@@ -197,7 +197,7 @@ pub extern "C" fn lobrinkas_run(
     let channel = rest.channel;
     if image.len() < IMAGE_MOST {
         return refused_run(
-            short_run(setup, channel, slave.len(), master.len(), steps),
+            short_run(setup, channel, tally, slave, master, steps),
             length,
             tally,
         );

@@ -33,15 +33,19 @@ returns-2 c =
 returns-3 : tie.Need-returns-3
 returns-3 c =
     let five = c .before .before .before .before .before in
-    let ten = five .before .before .before .before .before in
-    let a = ten .before .before .before .before .before .before .before .args in
+    let eleven = five .before .before .before .before .before .before in
+    let sixteen = eleven .before .before .before .before .before in
+    let a = sixteen .before .before .before .before .before .before .before .args in
     let image = now (a .image) in
-    let head = ten .before .before .read-setup in
-    let rest = five .before .before .read-channel in
-    let read = image-on image (a .length) (head .ensures) (ten .first .given .1) (rest .ensures) (five .enum-told2 .given .1) in
+    let head = sixteen .before .before .read-setup in
+    let rest = eleven .before .before .read-channel in
+    let read = image-on image (a .length) (head .ensures) (sixteen .first .given .1) (rest .ensures) (eleven .enum-told2 .given .1) in
     let all = run-parts (run-short (head .result .setup) (rest .result .channel) image (a .length) read (now (a .slave)) (now (a .master)) (a .tally) (a .steps)
     (omega arith)) in
-    (c .refused-run3 .ensures ∙ ap (λ (why : Refusal). refusedRan why (a .length) (a .tally)) (c .before .short-run .ensures) ∙ all .0, all .1)
+    let short = five .short-run .ensures in (
+      c .refused-run3 .ensures ∙ ap (λ (why : Refusal). refusedRan why (a .length) (a .tally)) (short .0) ∙ all .0,
+      (all .1 .0, (short .1 .0 ∙ all .1 .1 .0, short .1 .1 ∙ all .1 .1 .1)),
+    )
 
 returns-4 : tie.Need-returns-4
 returns-4 c =
@@ -83,10 +87,12 @@ lobrinkas-run-spec =
     (λ c κs. search needs)  -- short-run-requires
     (λ c κs. search needs)  -- refused-run-requires-3
     (λ c. search needs)  -- same-length-3
+    (λ c. search needs)  -- same-length-4
+    (λ c. search needs)  -- same-length-5
     returns-3
     (λ c κs. search needs)  -- run-requires
     (λ c κs. search needs)  -- finish-run-requires
-    (λ c. search needs)  -- same-length-4
-    (λ c. search needs)  -- same-length-5
     (λ c. search needs)  -- same-length-6
+    (λ c. search needs)  -- same-length-7
+    (λ c. search needs)  -- same-length-8
     returns-4)
