@@ -33,7 +33,7 @@ use Rattle.image.specs.Read.{
   requestFrom,
   requestsAt,
   ended,
-  closed,
+  nothingAfter,
   channelPartAt,
 }
 use Rattle.image.specs.inner.Rows.{partOf, onGood, readLevel, readSlave, readRequest}
@@ -115,7 +115,7 @@ module _ (src : Source) (at : ℕ) {setup : Setup} {part : Part} (is : rowsRead 
 -- requests, of which the place is one more; the number that stands there are the bytes left of one
 module _ (src : Source) (len at : ℕ) {left k : ℕ} (more : left ≡ suc k) (l : ℕ) (ch : Channel) where
   pub requests-fault : {got : NumberRead} {why : Refusal} {p : ℕ} → got ≡ src at → got ≡ NoNumber why p
-      → channelRead ch (partOf got) ≡ closed len (requestsAt src left l ch at)
+      → channelRead ch (partOf got) ≡ nothingAfter len (requestsAt src left l ch at)
   unfolding requestsAt
   requests-fault r n = let none = sym r ∙ n in ap (λ (x : NumberRead). channelRead ch (partOf x)) n ∙ rw (more, none)
 
@@ -129,7 +129,7 @@ module _ (src : Source) (len at : ℕ) {left k : ℕ} (more : left ≡ suc k) (l
       read-part : got .part ≡ passed src 4 next
       read-part = ap (λ (x : RequestRead). x .part) is
 
-      pub requests-short : {why : Refusal} {p : ℕ} → got .part ≡ Fault why p → channelRead ch (got .part) ≡ closed len (requestsAt src left l ch at)
+      pub requests-short : {why : Refusal} {p : ℕ} → got .part ≡ Fault why p → channelRead ch (got .part) ≡ nothingAfter len (requestsAt src left l ch at)
       unfolding requestsAt
       requests-short e =
           let read : passed src 4 next ≡ Fault _ _ = sym read-part ∙ e in
@@ -145,7 +145,7 @@ module _ (src : Source) (len at : ℕ) {left k : ℕ} (more : left ≡ suc k) (l
 
 -- none is due, and the image ends or not
 pub requests-done : (src : Source) (len at : ℕ) {left : ℕ} → left ≡ 0 → (l : ℕ) (ch : Channel) {part : Part} → part ≡ ended len at
-    → channelRead ch part ≡ closed len (requestsAt src left l ch at)
+    → channelRead ch part ≡ nothingAfter len (requestsAt src left l ch at)
 unfolding requestsAt
 requests-done src len at none l ch is = ap (channelRead ch) is ∙ rw none
 
@@ -155,6 +155,6 @@ module _ (src : Source) (len at : ℕ) {state : ChannelRead} (is : state ≡ sta
   unfolding channelPartAt
   channel-fault e = ap (channelRead (state .channel)) e ∙ rw (← is, e)
 
-  pub channel-on : {next : ℕ} → state .part ≡ Good next → closed len (requestsAt src places 0 (state .channel) next) ≡ channelPartAt src len at
+  pub channel-on : {next : ℕ} → state .part ≡ Good next → nothingAfter len (requestsAt src places 0 (state .channel) next) ≡ channelPartAt src len at
   unfolding channelPartAt
   channel-on e = rw (← is, e)

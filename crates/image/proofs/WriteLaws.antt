@@ -87,8 +87,8 @@ module _ (ch : Channel) (row : List ℕ) (at l : ℕ) {left k : ℕ} (more : lef
   pub none-on : getD (ch .left) l 0 ≡ 0 → Laid (set row at 0) (at + 1) (requestsNumbers ch k (l + 1)) end after
       → Laid row at (requestsNumbers ch left l) end after
   none-on none rest =
-      let closed : requestNumbers (requestOf ch l) ≡ 0 ∷ [] = rw (eq-eqb (getD (ch .left) l 0) 0 none) in
-      some-on (rw closed (laid-one row at 0 (zero-put row at))) rest
+      let nothingAfter : requestNumbers (requestOf ch l) ≡ 0 ∷ [] = rw (eq-eqb (getD (ch .left) l 0) 0 none) in
+      some-on (rw nothingAfter (laid-one row at 0 (zero-put row at))) rest
 
 pub requests-done : (ch : Channel) (l : ℕ) {left : ℕ} → left ≡ 0 → requestsNumbers ch left l ≡ []
 unfolding requestsNumbers

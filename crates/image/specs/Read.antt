@@ -139,10 +139,10 @@ requestsAt src (suc more) l ch at =
 abbrev pub ended : ℕ → ℕ → Part
 ended len at = cond (ltb at len) (Fault (refusalBy 18) at) (Good at)
 
-abbrev pub closed : ℕ → ChannelRead → ChannelRead
-closed len all = thenState (all .part) (all .channel) (λ end. channelRead (all .channel) (ended len end))
+abbrev pub nothingAfter : ℕ → ChannelRead → ChannelRead
+nothingAfter len all = thenState (all .part) (all .channel) (λ end. channelRead (all .channel) (ended len end))
 
 unfoldable pub channelPartAt : Source → ℕ → ℕ → ChannelRead
 channelPartAt src len at =
     let state = stateAt src at in
-    thenState (state .part) (state .channel) (λ next. closed len (requestsAt src places 0 (state .channel) next))
+    thenState (state .part) (state .channel) (λ next. nothingAfter len (requestsAt src places 0 (state .channel) next))

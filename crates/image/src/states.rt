@@ -21,7 +21,7 @@ ghost use Rattle.numbers.specs.declared.Part.the-variants.{Good, Fault};
 ghost use Rattle.channel.specs.declared.Asked.the-variants.{Never};
 ghost use Rattle.channel.specs.Channel.{freshChannel, noRequest, changed};
 ghost use Rattle.image.specs.Read.{phaseOf, marksOf, askedRead, timeAt, askedAt, channelRead, marksAt, ownerAt, stateAt, requestsAt};
-ghost use Rattle.image.specs.Read.{ended, closed, channelPartAt};
+ghost use Rattle.image.specs.Read.{ended, nothingAfter, channelPartAt};
 ghost use Rattle.image.specs.inner.Rows.{partOf, requestRead, readRequest};
 
 // A request that was read, or none, and the part of the image that it is.
@@ -222,7 +222,7 @@ fn ended(length: usize, end: usize) -> Part
 
 // The requests, laid into a channel that has none, and the end of the image. A place without one stays as it is.
 fn read_requests(bytes: &[u8], first: Channel, at: usize) -> ChannelRead
-    ensures { λ r. ⌜ r ≡ closed (length (now (bytes .entry))) (requestsAt (readNumber (now (bytes .entry))) places 0 first at) ⌝ }
+    ensures { λ r. ⌜ r ≡ nothingAfter (length (now (bytes .entry))) (requestsAt (readNumber (now (bytes .entry))) places 0 first at) ⌝ }
 {
     let mut channel = first;
     let mut level: usize = 0;

@@ -8,7 +8,7 @@ use lib.ListN.{length}
 use Rattle.basics.specs.Limits.{places}
 use Rattle.number.specs.Number.{readNumber}
 use Rattle.channel.specs.Channel.{withRequest}
-use Rattle.image.specs.Read.{channelRead, requestsAt, closed}
+use Rattle.image.specs.Read.{channelRead, requestsAt, nothingAfter}
 use Rattle.image.proofs.TurnLaws.{requests-fault, requests-none, requests-short, requests-on, requests-done}
 use Rattle.image.proofs.states.read_requests.Statement.{statement}
 use Rattle.image.proofs.states.read_requests.Tie as tie
@@ -33,7 +33,7 @@ returns c =
     ap (channelRead (l .channel)) (c .part-of .ensures)
     ∙ requests-fault (readNumber s) (length s) (l .place) more (l .level) (l .channel) (c .before .before .before .read-number .ensures)
     (c .before .enum-told .given .1)
-    ∙ ap (closed (length s)) (l .inv .1)
+    ∙ ap (nothingAfter (length s)) (l .inv .1)
 
 loop-again : tie.Need-loop-again Inv-loop μ-loop
 loop-again c =
@@ -56,7 +56,7 @@ returns-2 c =
     let got = c .before .before .read-request in
     requests-short (readNumber s) (length s) (l .place) more (l .level) (l .channel) (sym (seven .read-number .ensures) ∙ three .before .before .got .given .1)
     (three .if1 .left) (got .result) (got .ensures) (c .enum-told2 .given .1)
-    ∙ ap (closed (length s)) (l .inv .1)
+    ∙ ap (nothingAfter (length s)) (l .inv .1)
 
 loop-again-2 : tie.Need-loop-again-2 Inv-loop μ-loop
 unfolding withRequest
@@ -77,7 +77,7 @@ returns-3 c =
     let l = c .before .before .loop in
     let s = now (c .before .before .before .before .args .bytes) in
     let none : places - l .level ≡ 0 = omega arith in
-    requests-done (readNumber s) (length s) (l .place) none (l .level) (l .channel) (c .ended .ensures) ∙ ap (closed (length s)) (l .inv .1)
+    requests-done (readNumber s) (length s) (l .place) none (l .level) (l .channel) (c .ended .ensures) ∙ ap (nothingAfter (length s)) (l .inv .1)
 
 pub read-requests-spec : {M : Type 1} → statement M
 read-requests-spec =
