@@ -50,12 +50,9 @@ use Rattle.numbers.specs.declared.Part.the-variants.{Good, Fault}
 use Rattle.sheet.specs.Sheet.{answered, sheetNumbers}
 use Rattle.frame.specs.Frame.{isFramed}
 use Rattle.sound.specs.Sound.{isSound}
-use Rattle.number.specs.Number.{readNumber}
-use Rattle.numbers.specs.Numbers.{allBytes}
 use Rattle.image.specs.declared.Imaged.{Imaged}
 use Rattle.image.specs.Layout.{imageBytes, imageMost}
-use Rattle.image.specs.Read.{headAt}
-use Rattle.image.specs.Image.{thenImage, malformed, readSetup, readChannel, readImage, writeImage, headRead, readHead}
+use Rattle.image.specs.Image.{thenImage, malformed, readSetup, readChannel, readImage, writeImage, headRead, headBytes, readHead}
 use Rattle.lobrinkas.specs.Answers.{cycleStep, stepBy}
 use Rattle.lobrinkas.specs.Calls.{
   Answered,
@@ -306,10 +303,11 @@ ended-number : (b : Bool) (i : Imaged) → verdictNumber (i .verdict) ≡ 0 → 
 ended-number true i good = refl
 ended-number false i good = good
 
-pub head-number : (list : List ℕ) (master : ℕ) → verdictNumber (readHead list master .verdict) ≡ firstNumber (malformedHead list ∷ [])
+pub head-number : (list : List ℕ) (master : ℕ) → verdictNumber (readHead list master .verdict) ≡ firstNumber (malformedHead list master ∷ [])
 unfolding readHead headRead
 head-number list master =
-    then-number (headAt (readNumber (allBytes list)) 0 .part) _ _ (λ end. ended-number (ltb end (length (allBytes list))) _ refl)
+    let bytes = headBytes list master in
+    then-number (readSetup bytes (length bytes) .part) _ _ (λ end. ended-number (ltb end (length bytes)) _ refl)
 
 pub image-told : (setup : Setup) (ch : Channel) (out : List ℕ) → writingNumbers (writeImage setup ch out) ≡ imageTold setup ch out
 unfolding writeImage
@@ -352,7 +350,7 @@ pub set-up-call-number : (image list : List ℕ) (master : ℕ)
 unfolding lobrinkasSetUp setUp
 set-up-call-number image list master =
     let setup = readHead list master .setup in
-    over-image (λ v. setUpBy v setup image .result .refusal) (λ r. refl) (readHead list master .verdict) (malformedHead list .1)
+    over-image (λ v. setUpBy v setup image .result .refusal) (λ r. refl) (readHead list master .verdict) (malformedHead list master .1)
     (broken setup ∷ noImageRoom setup freshChannel image ∷ [])
     (head-number list master)
     (rows-told (λ v. answerBy v setup freshChannel image 0 .result .refusal) (λ r. refl) (broken setup ∷ []) (noImageRoom setup freshChannel image ∷ [])

@@ -276,7 +276,7 @@ module _ {M : Type 1} (𝓤 : URA M) (H : Heap 𝓤) (A : Atoms 𝓤) (mem : Mem
   of-read-image κs a g r ws = alone _ (λ (r : Imaged). verdictNumber (r .verdict) ≡ _) (image-number (a .0 .now) (a .1 .0)) r
 
   of-read-head : Tells image.read_head.ended image.read_head.clauses
-      (λ κs a (r : Imaged). verdictNumber (r .verdict) ≡ firstNumber (malformedHead (a .0 .now) ∷ []))
+      (λ κs a (r : Imaged). verdictNumber (r .verdict) ≡ firstNumber (malformedHead (a .0 .now) (a .1 .0) ∷ []))
   of-read-head κs a g r ws = alone _ (λ (r : Imaged). verdictNumber (r .verdict) ≡ _) (head-number (a .0 .now) (a .1 .0)) r
 
   of-write-channel : Tells image.write_channel.ended image.write_channel.clauses

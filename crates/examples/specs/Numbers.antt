@@ -31,11 +31,8 @@ use Rattle.step.specs.Run.{World, runOf}
 use Rattle.step.specs.Log.{Page, LoggedOut, logRunOf}
 use Rattle.numbers.specs.declared.Part.{Part}
 use Rattle.numbers.specs.declared.Part.the-variants.{Good, Fault}
-use Rattle.numbers.specs.Numbers.{allBytes}
-use Rattle.number.specs.Number.{readNumber}
 use Rattle.image.specs.Layout.{imageBytes, imageMost}
-use Rattle.image.specs.Read.{headAt}
-use Rattle.image.specs.Image.{readSetup, readChannel, readImage, readHead}
+use Rattle.image.specs.Image.{readSetup, readChannel, readImage, headBytes, readHead}
 
 -- a row: the number, and whether what the paper says of it is so
 abbrev pub RefusalRow : Type 0
@@ -117,12 +114,14 @@ isImage bytes n = isGoodThen (readSetup bytes n .part) (λ start. isGoodThen (re
 abbrev pub malformedImage : List ℕ → ℕ → RefusalRow
 malformedImage bytes n = (18, not (isImage bytes n))
 
--- a list is a sheet's head where its bytes are, and nothing follows it
-abbrev pub isHead : List ℕ → Bool
-isHead list = isGoodThen (headAt (readNumber (allBytes list)) 0 .part) (λ end. not (ltb end (length (allBytes list))))
+-- a list is a sheet's head where the numbers with it are the set-up's part of an image, and nothing follows it
+abbrev pub isHead : List ℕ → ℕ → Bool
+isHead list master =
+    let bytes = headBytes list master in
+    isGoodThen (readSetup bytes (length bytes) .part) (λ end. not (ltb end (length bytes)))
 
-abbrev pub malformedHead : List ℕ → RefusalRow
-malformedHead list = (18, not (isHead list))
+abbrev pub malformedHead : List ℕ → ℕ → RefusalRow
+malformedHead list master = (18, not (isHead list master))
 
 -- an image that is written: 9, then 17
 abbrev pub imageTold : Setup → Channel → List ℕ → List ℕ
@@ -135,7 +134,7 @@ noImageRoom setup ch image = (17, not (leb (length (imageBytes setup ch)) (lengt
 -- 18 9 17
 abbrev pub setUpCallRows : List ℕ → List ℕ → ℕ → List RefusalRow
 setUpCallRows image list master =
-    let setup = readHead list master .setup in malformedHead list ∷ broken setup ∷ noImageRoom setup freshChannel image ∷ []
+    let setup = readHead list master .setup in malformedHead list master ∷ broken setup ∷ noImageRoom setup freshChannel image ∷ []
 
 -- 18 9 1 2 3 4 5 17
 abbrev pub postCallRows : List ℕ → ℕ → Order → List RefusalRow
