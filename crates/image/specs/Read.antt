@@ -45,10 +45,11 @@ unfoldable pub countedAt : RowKind → Source → Setup → ℕ → RowsRead
 countedAt kind src setup at =
     withRows (numberIn src 0 rowsMost at) setup (λ n next. rowsAt kind src n 0 (withCount setup kind n) next)
 
--- the rows of both kinds, and the length of the master store
+-- the set-up with a length of the master store
 abbrev pub withMaster : Setup → ℕ → Setup
 withMaster setup length = record { levels = setup .levels; slaves = setup .slaves; master = length }
 
+-- the rows of both kinds, and that length
 unfoldable pub tablesAt : Source → ℕ → RowsRead
 tablesAt src at =
     let levels = countedAt Levels src noRows at in
