@@ -140,7 +140,7 @@ module _ (src : Source) (len at : ℕ) {left k : ℕ} (more : left ≡ suc k) (l
       unfolding requestsAt
       requests-on {end} e =
           let read : passed src 4 next ≡ Good end = sym read-part ∙ e in
-          let request : got .request ≡ requestFrom n (numbers src 4 next) = ap (λ (x : RequestRead). x .request) is ∙ on-good (requestFrom n (numbers src 4 next)) noRequest read in
+          let request = ap (λ (x : RequestRead). x .request) is ∙ on-good (requestFrom n (numbers src 4 next)) noRequest read in
           rw (request, more, r, ne-eqb n 0 some, read)
 
 -- none is due, and the image ends or not

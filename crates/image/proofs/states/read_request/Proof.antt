@@ -7,20 +7,29 @@ use Rattle.image.proofs.states.read_request.Tie as tie
 returns : tie.Need-returns
 returns c =
     let one = c .before .before .before in
-    c .no-request .ensures ∙ rw (c .before .enum-told .given .1, sym (one .read-number .ensures) ∙ c .before .enum-told .given .1)
+    let told = c .before .enum-told .given .1 in
+    let none = sym (one .read-number .ensures) ∙ told in
+    c .no-request .ensures ∙ rw (told, none)
 
 returns-2 : tie.Need-returns-2
 returns-2 c =
     let one = c .before .before .before in
     let two = one .before .before .before .before in
-    c .no-request2 .ensures ∙ rw (c .before .enum-told2 .given .1, sym (two .read-number .ensures) ∙ one .before .before .first .given .1, sym (one .read-number2 .ensures) ∙ c .before .enum-told2 .given .1)
+    let first = sym (two .read-number .ensures) ∙ one .before .before .first .given .1 in
+    let told = c .before .enum-told2 .given .1 in
+    let none = sym (one .read-number2 .ensures) ∙ told in
+    c .no-request2 .ensures ∙ rw (told, first, none)
 
 returns-3 : tie.Need-returns-3
 returns-3 c =
     let one = c .before .before .before in
     let two = one .before .before .before .before in
     let three = two .before .before .before .before in
-    c .no-request3 .ensures ∙ rw (c .before .enum-told3 .given .1, sym (three .read-number .ensures) ∙ two .before .before .first .given .1, sym (two .read-number2 .ensures) ∙ one .before .before .next .given .1, sym (one .read-number3 .ensures) ∙ c .before .enum-told3 .given .1)
+    let first = sym (three .read-number .ensures) ∙ two .before .before .first .given .1 in
+    let next = sym (two .read-number2 .ensures) ∙ one .before .before .next .given .1 in
+    let told = c .before .enum-told3 .given .1 in
+    let none = sym (one .read-number3 .ensures) ∙ told in
+    c .no-request3 .ensures ∙ rw (told, first, next, none)
 
 returns-4 : tie.Need-returns-4
 returns-4 c =
@@ -28,7 +37,12 @@ returns-4 c =
     let two = one .before .before .before .before in
     let three = two .before .before .before .before in
     let four = three .before .before .before .before in
-    c .no-request4 .ensures ∙ rw (c .before .enum-told4 .given .1, sym (four .read-number .ensures) ∙ three .before .before .first .given .1, sym (three .read-number2 .ensures) ∙ two .before .before .next .given .1, sym (two .read-number3 .ensures) ∙ one .before .before .more .given .1, sym (one .read-number4 .ensures) ∙ c .before .enum-told4 .given .1)
+    let first = sym (four .read-number .ensures) ∙ three .before .before .first .given .1 in
+    let next = sym (three .read-number2 .ensures) ∙ two .before .before .next .given .1 in
+    let more = sym (two .read-number3 .ensures) ∙ one .before .before .more .given .1 in
+    let told = c .before .enum-told4 .given .1 in
+    let none = sym (one .read-number4 .ensures) ∙ told in
+    c .no-request4 .ensures ∙ rw (told, first, next, more, none)
 
 returns-5 : tie.Need-returns-5
 returns-5 c =
@@ -36,7 +50,11 @@ returns-5 c =
     let two = one .before .before .before .before in
     let three = two .before .before .before .before in
     let four = three .before .before .before .before in
-    rw (sym (four .read-number .ensures) ∙ three .before .before .first .given .1, sym (three .read-number2 .ensures) ∙ two .before .before .next .given .1, sym (two .read-number3 .ensures) ∙ one .before .before .more .given .1, sym (one .read-number4 .ensures) ∙ c .before .last .given .1)
+    let first = sym (four .read-number .ensures) ∙ three .before .before .first .given .1 in
+    let next = sym (three .read-number2 .ensures) ∙ two .before .before .next .given .1 in
+    let more = sym (two .read-number3 .ensures) ∙ one .before .before .more .given .1 in
+    let last = sym (one .read-number4 .ensures) ∙ c .before .last .given .1 in
+    rw (first, next, more, last)
 
 pub read-request-spec : {M : Type 1} → statement M
 read-request-spec =

@@ -20,8 +20,10 @@ returns c =
     let five = c .before .before .before .before .before in
     let a = five .before .before .args in
     λ levels.
-    ap₂ (λ (s : Setup) (part : Part). rowsRead (withSlaves (withLevels noRows levels) (s .slaves)) part) (c .before .before .no-rows .ensures) (c .part-of .ensures)
-    ∙ counted-fault (readNumber (now (a .bytes))) Slaves (withLevels noRows levels) (a .at) (five .number-in .ensures) (c .before .before .before .enum-told .given .1)
+    ap₂ (λ (s : Setup) (part : Part). rowsRead (withSlaves (withLevels noRows levels) (s .slaves)) part)
+    (c .before .before .no-rows .ensures) (c .part-of .ensures)
+    ∙ counted-fault (readNumber (now (a .bytes))) Slaves (withLevels noRows levels) (a .at) (five .number-in .ensures)
+    (c .before .before .before .enum-told .given .1)
 
 read-slaves-requires : tie.Need-read-slaves-requires
 read-slaves-requires c κs =
