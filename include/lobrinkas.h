@@ -1,11 +1,11 @@
 /*
  * Lobrinkas: a proved stand-in for the IBM Micro Channel, for emulators.
  *
- * The whole machine - set-up, owner, clock, marks, open requests - is a row of
- * bytes in memory of yours, the image. A call reads the image, does what it
- * does, and leaves the new image at the start of the same memory. Nothing is
- * allocated and nothing is kept anywhere else: to save the machine, copy the
- * image; to restore it, copy it back.
+ * The whole machine - set-up, whether it was ever granted, clock, owner, marks,
+ * open requests - is a row of bytes in memory of yours, the image. A call reads
+ * the image, does what it does, and leaves the new image at the start of the
+ * same memory. Nothing is allocated and nothing is kept anywhere else: to save
+ * the machine, copy the image; to restore it, copy it back.
  *
  *     uint8_t image[LOBRINKAS_IMAGE_MOST];      holds every image there is
  *     size_t length;                            of the image in it
@@ -33,19 +33,19 @@
 extern "C" {
 #endif
 
-#define LOBRINKAS_VERSION "1.0.0"
-#define LOBRINKAS_VERSION_MAJOR 1
+#define LOBRINKAS_VERSION "2.0.0"
+#define LOBRINKAS_VERSION_MAJOR 2
 #define LOBRINKAS_VERSION_MINOR 0
 #define LOBRINKAS_VERSION_PATCH 0
 
-/* the first number of an image; an image of another layout is malformed */
-#define LOBRINKAS_LAYOUT 1
+/* the first number of an image; an image of another layout is malformed, those of version 1 too */
+#define LOBRINKAS_LAYOUT 2
 
 /* the edition that a set-up's list begins with */
 #define LOBRINKAS_EDITION 1
 
 /* no image is longer, and one is as long */
-#define LOBRINKAS_IMAGE_MOST 409
+#define LOBRINKAS_IMAGE_MOST 410
 
 /* the most steps of one run */
 #define LOBRINKAS_STEPS_MOST 65535

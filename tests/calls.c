@@ -78,6 +78,10 @@ enum sight {
     LONGEST_IMAGE,
     CAPPED_TALLY,
     UNSOUND_AND_MALFORMED,
+    NEVER_AND_OWNED,
+    NEVER_AND_MARKED,
+    NEVER_AND_LATER,
+    GRANTED_AT_0,
     FULL_AND_OTHER_STORE,
     MANY_AND_OTHER_STORE,
     FULL_AND_NO_ROOM,
@@ -107,6 +111,10 @@ static const char *const sight_names[SIGHTS] = {
     [LONGEST_IMAGE] = "images of the longest length",
     [CAPPED_TALLY] = "tallies at their largest",
     [UNSOUND_AND_MALFORMED] = "18 where the image was unsound too",
+    [NEVER_AND_OWNED] = "9 for an owner before the first grant alone",
+    [NEVER_AND_MARKED] = "for a mark",
+    [NEVER_AND_LATER] = "for a clock above 0",
+    [GRANTED_AT_0] = "channels at clock 0 and arbitrating that were granted before",
     [FULL_AND_OTHER_STORE] = "8 where the clock was full too",
     [MANY_AND_OTHER_STORE] = "8 where the steps were too many too",
     [FULL_AND_NO_ROOM] = "6 where there was no room either",
@@ -156,7 +164,7 @@ static void same(const char *what, uint64_t ours, uint64_t theirs)
 /* ---- Both machines ----------------------------------------------------- */
 
 /* No row of numbers that has an image's shape is longer: each of its free numbers takes 5 bytes. */
-enum { SHAPE_MOST = 1 + 1 + 1 + 3 * 5 * MC_LEVELS + 1 + 5 * 5 * MC_SLAVES + 5 + 5 + 1 + 6 + 3 + 5 * 5 * MC_LEVELS };
+enum { SHAPE_MOST = 1 + 1 + 1 + 3 * 5 * MC_LEVELS + 1 + 5 * 5 * MC_SLAVES + 5 + 1 + 5 + 1 + 6 + 3 + 5 * 5 * MC_LEVELS };
 enum { GUARD = 64, IMAGE_ROOM = SHAPE_MOST + 80, IMAGE_BLOCK = GUARD + IMAGE_ROOM + GUARD };
 
 /* A store, guard bytes before it and behind its length; both sides have the same guard bytes, which are compared with it. */
@@ -877,6 +885,7 @@ static void move_clock(void)
     if (channel->has_asked && clock < since)
         return;
     channel->clock = clock;
+    channel->ever = channel->ever || clock != 0;
     channel->asked = channel->has_asked ? clock - since : 0;
     write_our_image();
 }
@@ -886,6 +895,7 @@ static void grant_at_0(void)
 {
     theirs.channel.phase = MC_GRANTED;
     theirs.channel.owner = MC_SYSTEM_MASTER;
+    theirs.channel.ever = true;
     write_our_image();
 }
 
@@ -909,7 +919,8 @@ static void put_request(struct mc_channel *channel, const struct mc_request *req
 /* Any channel that looks sound: the asked time may be too early for the owner's transfer. */
 static struct mc_channel draw_channel(void)
 {
-    struct mc_channel channel = {.clock = one_in(3) ? below(10000) : any() % MC_CLOCK_LIMIT};
+    bool is_early = one_in(4);
+    struct mc_channel channel = {.ever = true, .clock = is_early ? 0 : one_in(3) ? below(10000) : any() % MC_CLOCK_LIMIT};
     for (uint32_t posts = below(6); posts > 0; posts--) {
         struct mc_request request = draw_good_request();
         if (request.level < MC_LEVELS && request.length != 0)
@@ -934,6 +945,8 @@ static struct mc_channel draw_channel(void)
         uint32_t since = (open >> owner & 1) == 0 ? 0 : below(6000);
         channel.asked = channel.clock > since ? channel.clock - since : 0;
     }
+    if (is_early && channel.phase == MC_ARBITRATING && channel.inactive == 0)
+        channel.ever = one_in(2);
     return channel;
 }
 
@@ -945,7 +958,7 @@ static void spoil_channel(struct mc_channel *channel)
         level = below(MC_LEVELS);
     uint32_t *fields[] = {&channel->direction[level], &channel->space[level], &channel->address[level], &channel->left[level],
                           &channel->offset[level]};
-    uint32_t draw = below(10);
+    uint32_t draw = below(12);
     if (draw < LENGTH(fields) && channel->left[level] != 0)
         *fields[draw] = draw_odd(*fields[draw]);
     else if (draw == 5)
@@ -957,7 +970,9 @@ static void spoil_channel(struct mc_channel *channel)
     else if (draw == 8) {
         channel->phase = one_in(2) ? MC_GRANTED : MC_ARBITRATING;
         channel->owner = below(MC_LEVELS);
-    } else
+    } else if (draw > 9)
+        channel->ever = !channel->ever;
+    else
         channel->asked = channel->has_asked ? draw_odd(channel->asked) : 0;
     if (channel->left[level] == 0)
         put_request(channel, &(struct mc_request){.level = level});
@@ -977,6 +992,19 @@ static void spoil_setup(void)
     mc_list_setup(list.numbers, one_in(8) ? draw_odd(theirs.setup.master_length) : theirs.setup.master_length, &theirs.setup);
 }
 
+/* A channel that is unsound because it was never granted, and for nothing else: by which of the three it is. */
+static void see_never_granted(void)
+{
+    struct mc_channel before = theirs.channel;
+    before.ever = true;
+    if (!mc_fits_frame(&theirs.setup) || mc_is_unsound(&theirs.setup, &before))
+        return;
+    bool is_owned = before.phase == MC_GRANTED, is_marked = before.inactive != 0, is_later = before.clock != 0;
+    if (!theirs.channel.ever && is_owned + is_marked + is_later == 1)
+        met.sights[is_owned ? NEVER_AND_OWNED : is_marked ? NEVER_AND_MARKED : NEVER_AND_LATER]++;
+    met.sights[GRANTED_AT_0] += theirs.channel.ever && !is_owned && !is_later;
+}
+
 static void go_wild(void)
 {
     theirs.last = idle;
@@ -985,6 +1013,7 @@ static void go_wild(void)
         spoil_channel(&theirs.channel);
     if (one_in(4))
         spoil_setup();
+    see_never_granted();
     write_our_image();
 }
 
@@ -1092,6 +1121,7 @@ static void reach_longest(void)
     struct list list = list_of(&setup);
     while (!call_set_up(&list, MC_STORE_MAX))
         ;
+    theirs.channel.ever = true;
     theirs.channel.clock = UINT32_C(3000000000);
     write_our_image();
     for (uint32_t i = 0; i < MC_LEVELS; i++) {

@@ -124,11 +124,11 @@ isMarked (Marked hold) = true
 
 -- the channel at another clock
 unfoldable pub clocked : Channel → ℕ → Channel
-clocked ch clock = changed ch (ch .phase) (ch .asked) clock (ch .inactive)
+clocked ch clock = changed ch (ch .phase) (ch .asked) (ch .ever) clock (ch .inactive)
 
 -- "The channel is then arbitrating."
 unfoldable pub freed : Channel → List Bool → Channel
-freed ch inactive = changed ch Arbitrating Never (ch .clock) inactive
+freed ch inactive = changed ch Arbitrating Never (ch .ever) (ch .clock) inactive
 
 abbrev pub markedAt : List Bool → ℕ → List Bool
 markedAt inactive l = set inactive l true

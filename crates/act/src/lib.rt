@@ -121,9 +121,9 @@ pub fn is_marked(ending: Ending) -> bool
     }
 }
 
-// How long an arbitration takes.
-pub fn arbitration_time() -> u32
-    ensures { λ r. ⌜ r ≡ arbitrationTime ⌝ }
+// How long an arbitration takes: the first after set-up 100 ns, and 30 more once the channel has been granted.
+pub fn arbitration_time(ever: bool) -> u32
+    ensures { λ r. ⌜ r ≡ arbitrationTime ever ⌝ }
 {
-    100
+    if ever { 130 } else { 100 }
 }

@@ -16,12 +16,13 @@ use Rattle.channel.specs.Channel.{requestOf, noRequest, withRequest, cha
 use Rattle.channel.specs.Line.{line, clearMarks, setAsked, lineRule}
 
 -- equal fields, equal channels
-pub same-channel : (a b : Channel) → a .phase ≡ b .phase → a .asked ≡ b .asked → a .clock ≡ b .clock → a .inactive ≡ b .inactive
-    → a .direction ≡ b .direction → a .space ≡ b .space → a .address ≡ b .address → a .left ≡ b .left → a .offset ≡ b .offset → a ≡ b
-same-channel a b phase asked clock inactive direction space address left offset =
+pub same-channel : (a b : Channel) → a .phase ≡ b .phase → a .asked ≡ b .asked → a .ever ≡ b .ever → a .clock ≡ b .clock
+    → a .inactive ≡ b .inactive → a .direction ≡ b .direction → a .space ≡ b .space → a .address ≡ b .address → a .left ≡ b .left → a .offset ≡ b .offset → a ≡ b
+same-channel a b phase asked ever clock inactive direction space address left offset =
     λ i. record {
       phase = phase i;
       asked = asked i;
+      ever = ever i;
       clock = clock i;
       inactive = inactive i;
       direction = direction i;
@@ -67,7 +68,7 @@ no-request ch l s h =
 pub no-place : (ch : Channel) (l : ℕ) (q : Request) → Shaped ch → places ≤ l → withRequest ch l q ≡ ch
 unfolding withRequest
 no-place ch l q s h =
-    same-channel (withRequest ch l q) ch refl refl refl refl
+    same-channel (withRequest ch l q) ch refl refl refl refl refl
     (set-out (ch .direction) l (q .direction) (omega (arith, s .direction)))
     (set-out (ch .space) l (q .space) (omega (arith, s .space)))
     (set-out (ch .address) l (q .address) (omega (arith, s .address)))
@@ -91,13 +92,13 @@ with-shaped ch l q s =
     }
 
 -- a changed channel has the shape where its marks have
-pub changed-shaped : (ch : Channel) (phase : Phase) (asked : Asked) (clock : ℕ) (marks : List Bool) → length marks ≡ places → Shaped ch
-    → Shaped (changed ch phase asked clock marks)
-changed-shaped ch phase asked clock marks n s =
+pub changed-shaped : (ch : Channel) (phase : Phase) (asked : Asked) (ever : Bool) (clock : ℕ) (marks : List Bool) → length marks ≡ places → Shaped ch
+    → Shaped (changed ch phase asked ever clock marks)
+changed-shaped ch phase asked ever clock marks n s =
     record { inactive = n; direction = s .direction; space = s .space; address = s .address; left = s .left; offset = s .offset }
 
 pub rule-shaped : (ch : Channel) → Shaped ch → Shaped (lineRule ch)
 unfolding setAsked clearMarks
 rule-shaped ch s =
-    changed-shaped ch (ch .phase) (lineRule ch .asked) (ch .clock) (lineRule ch .inactive)
+    changed-shaped ch (ch .phase) (lineRule ch .asked) (ch .ever) (ch .clock) (lineRule ch .inactive)
     (by-test (line ch) (λ t. rw t (s .inactive)) (λ f. rw f refl)) s

@@ -1,7 +1,7 @@
 -- Document 01, "The frame", its last part: requests, the phase, and the channel after set-up.
 use Prim.Native.Nat.{ℕ}
 use mathlib.Core.Path.{_≡_}
-use mathlib.Core.Bool.{Bool, false, not}
+use mathlib.Core.Bool.{Bool, true, false, not}
 use mathlib.Core.List.{List, [], _∷_}
 use lib.ListN.{length, getD, set, replicate}
 use lib.Dec.{eqb}
@@ -18,7 +18,12 @@ use Rattle.channel.specs.declared.Channel.{Channel}
 use Rattle.channel.specs.declared.Request.{Request}
 use Rattle.channel.specs.declared.Judged.{Judged}
 
--- "The channel is arbitrating, or granted to one level.": the owner's level; while arbitrating `noOwner`, which is no level
+-- "The channel is arbitrating, or granted to one level.": whether it is arbitrating
+abbrev pub isArbitrating : Phase → Bool
+isArbitrating Arbitrating = true
+isArbitrating (Granted owner) = false
+
+-- the owner's level; while arbitrating `noOwner`, which is no level
 abbrev pub ownerOf : Phase → ℕ
 ownerOf Arbitrating = noOwner
 ownerOf (Granted owner) = owner
@@ -53,6 +58,7 @@ withRequest ch l q =
     record {
       phase = ch .phase;
       asked = ch .asked;
+      ever = ch .ever;
       clock = ch .clock;
       inactive = ch .inactive;
       direction = set (ch .direction) l (q .direction);
@@ -62,12 +68,13 @@ withRequest ch l q =
       offset = set (ch .offset) l (q .offset);
     }
 
--- the channel with another phase, asked time, clock and marks; its requests stay
-abbrev pub changed : Channel → Phase → Asked → ℕ → List Bool → Channel
-changed ch phase asked clock inactive =
+-- the channel with another phase, asked time, clock and marks, and whether it was ever granted; its requests stay
+abbrev pub changed : Channel → Phase → Asked → Bool → ℕ → List Bool → Channel
+changed ch phase asked ever clock inactive =
     record {
       phase = phase;
       asked = asked;
+      ever = ever;
       clock = clock;
       inactive = inactive;
       direction = ch .direction;
@@ -77,12 +84,14 @@ changed ch phase asked clock inactive =
       offset = ch .offset;
     }
 
--- "After set-up: arbitrating, clock 0, no requests, no marks."
+-- "After set-up: arbitrating, clock 0, no requests, no marks."; and it was never granted (document 02, CR 2: "The channel and its image keep whether it has
+-- ever been granted")
 abbrev pub freshChannel : Channel
 freshChannel =
     record {
       phase = Arbitrating;
       asked = Never;
+      ever = false;
       clock = 0;
       inactive = replicate places false;
       direction = replicate places 0;

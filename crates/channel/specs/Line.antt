@@ -41,7 +41,8 @@ othersAsk ch = anyBelow (asks (ch .left) (ownerOf (ch .phase))) places
 
 -- "1. If the line is not active, every inactive mark is removed, and the line is judged afresh."
 unfoldable pub clearMarks : Channel → Channel
-clearMarks ch = changed ch (ch .phase) (ch .asked) (ch .clock) (cond (line ch) (ch .inactive) (replicate places false))
+clearMarks ch =
+    changed ch (ch .phase) (ch .asked) (ch .ever) (ch .clock) (cond (line ch) (ch .inactive) (replicate places false))
 
 -- "an active line .. sets the asked time to the clock"
 abbrev pub askedIf : Bool → ℕ → Asked
@@ -54,7 +55,8 @@ askedNow (Granted owner) (At t) active clock = At t
 askedNow (Granted owner) Never active clock = askedIf active clock
 
 unfoldable pub setAsked : Channel → Channel
-setAsked ch = changed ch (ch .phase) (askedNow (ch .phase) (ch .asked) (line ch) (ch .clock)) (ch .clock) (ch .inactive)
+setAsked ch =
+    changed ch (ch .phase) (askedNow (ch .phase) (ch .asked) (line ch) (ch .clock)) (ch .ever) (ch .clock) (ch .inactive)
 
 -- "After each accepted post and step"
 abbrev pub lineRule : Channel → Channel

@@ -27,10 +27,12 @@ pub enum Asked {
     At(u32),
 }
 
-// The request arrays are indexed by level number. A level whose `left` is 0 has no open request, and zeros in the others.
+// `ever` says whether the channel has ever been granted: the first arbitration after set-up is shorter. The request arrays are
+// indexed by level number. A level whose `left` is 0 has no open request, and zeros in the others.
 pub struct Channel {
     pub phase: Phase,
     pub asked: Asked,
+    pub ever: bool,
     pub clock: u32,
     pub inactive: [bool; PLACES],
     pub direction: [u32; PLACES],
@@ -220,6 +222,7 @@ fn set_asked(channel: Channel) -> Channel
     Channel {
         phase: phase,
         asked: next,
+        ever: channel.ever,
         clock: channel.clock,
         inactive: inactive,
         direction: direction,
@@ -237,13 +240,14 @@ pub fn line_rule(channel: Channel) -> Channel
     set_asked(clear_marks(channel))
 }
 
-// After set-up: arbitrating, clock 0, no requests, no marks.
+// After set-up: arbitrating, never granted, clock 0, no requests, no marks.
 pub fn fresh_channel() -> Channel
     ensures { λ r. ⌜ r ≡ freshChannel ⌝ }
 {
     Channel {
         phase: Phase::Arbitrating,
         asked: Asked::Never,
+        ever: false,
         clock: 0,
         inactive: [false; PLACES],
         direction: [0; PLACES],

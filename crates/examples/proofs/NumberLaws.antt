@@ -160,7 +160,7 @@ resting false o = refl
 
 phase-number : (setup : Setup) (ch : Channel) (p : Phase) → first (planNumbers (phasePlan setup ch p)) ≡ firstNumber ((6, passes setup ch p) ∷ [])
 unfolding ownerPlan cycleOf routeOf
-phase-number setup ch Arbitrating = full (isOver ch arbitrationTime) (plan.Grant (winner (ch .left) (ch .inactive))) refl
+phase-number setup ch Arbitrating = full (isOver ch (arbitrationTime (ch .ever))) (plan.Grant (winner (ch .left) (ch .inactive))) refl
 phase-number setup ch (Granted o) =
     by-test (eqb (requestOf ch o .left) 0)
     (λ t. rw t (resting (line ch) o))

@@ -4,9 +4,9 @@ use Prim.Native.Nat.{ℕ}
 use Prim.Native.Char.{code}
 use Prim.Native.String.{String, [] as empty, _∷_ as _∷ˢ_}
 use mathlib.Core.Path.{_≡_, refl}
-use mathlib.Core.Bool.{true}
+use mathlib.Core.Bool.{Bool, true, false}
 use mathlib.Core.List.{List, [], _∷_, _++_}
-use lib.ListN.{length, replicate}
+use lib.ListN.{length, replicate, set}
 use Rattle.basics.specs.Scan.{allBelow, anyBelow, firstFrom}
 use Rattle.cycle.specs.Cycle.{isLength, isWidth, isPort, transferTime}
 use Rattle.frame.specs.Frame.{
@@ -31,12 +31,17 @@ use Rattle.frame.specs.Frame.{
 use Rattle.frame.specs.Allowance.{allowanceOf, isWithin}
 use Rattle.frame.specs.Rows.{isPresent, levelOf}
 use Rattle.frame.specs.Find.{levelIndex, levelRow, rowHolds, slaveIndex, slaveRow, slaveStoreLength, storePlace}
+use Rattle.channel.specs.declared.Phase.{Phase}
 use Rattle.channel.specs.declared.Phase.the-variants.{Arbitrating, Granted}
-use Rattle.channel.specs.Channel.{freshChannel, hasRequest, withRequest, requestOf}
+use Rattle.channel.specs.declared.Asked.the-variants.{Never}
+use Rattle.channel.specs.declared.Channel.{Channel}
+use Rattle.channel.specs.Channel.{freshChannel, hasRequest, withRequest, changed, requestOf}
 use Rattle.channel.specs.Line.{waits, drives, lineActive, asks, othersAsk, clearMarks, setAsked, winnerFrom}
 use Rattle.channel.specs.Slave.{slaveOf, startOf}
 use Rattle.sound.specs.Request.{isInRange, requestVerdict, transferOf}
 use Rattle.sound.specs.Sound.{
+  areUnmarked,
+  isNeverGrantedSound,
   isGrantSound,
   isOwnerSound,
   isBlank,
@@ -49,7 +54,7 @@ use Rattle.sound.specs.Sound.{
   isAskedSound,
   isSound,
 }
-use Rattle.post.specs.Post.{postVerdict, posted, postOf}
+use Rattle.post.specs.Post.{requestIn, postVerdict, posted, postOf}
 use Rattle.act.specs.Cycle.{
   routeOf,
   restAfter,
@@ -68,7 +73,7 @@ use Rattle.act.specs.Turn.{arbitrationTime, granted, grantTurn, leaveTurn}
 use Rattle.tally.specs.Tally.{addGrant, addCycle, addRelease}
 use Rattle.step.specs.Plan.{ownerPlan, actPlan, readyVerdict, planOf}
 use Rattle.step.specs.Step.{stepOf, carryOf, movedSlave, movedMaster, slaveAfter, masterAfter}
-use Rattle.step.specs.Run.{world, worldAfter, runFrom, runOf}
+use Rattle.step.specs.Run.{World, world, worldAfter, runFrom, runOf}
 use Rattle.act.specs.Entry.{cycleFields}
 use Rattle.number.specs.Number.{readNumber, bytesOf}
 use Rattle.numbers.specs.declared.Part.the-variants.{Good}
@@ -117,19 +122,52 @@ record Whole : Type 0 where
   ends : eventFrom list 4 ≡ length list
   log : sheetPrint input ≡ bytes output
 
+-- the fresh channel but for its phase, whether it was ever granted, its clock and its marks; one that is arbitrating, without marks; and one that has a
+-- mark at level 3 while level 7 waits
+abbrev standing : Phase → Bool → ℕ → List Bool → Channel
+standing phase ever clock marks = changed freshChannel phase Never ever clock marks
+
+abbrev arbitrating : Bool → ℕ → Channel
+arbitrating ever clock = standing Arbitrating ever clock (freshChannel .inactive)
+
+abbrev marked : Bool → Channel
+marked ever = withRequest (standing Arbitrating ever 0 (set (freshChannel .inactive) 3 true)) 7 (requestIn second)
+
+abbrev from : Channel → World
+from ch = world ch noTally (replicate 16 0) (replicate 4096 0)
+
+-- Document 02, CR 2: "An arbitration now takes 130 ns, except the first after set-up, 100."; "a channel never granted is unsound if it is granted now, has a
+-- mark or has a clock above 0"
+record Grants : Type 0 where
+  -- by the grant and not by the clock: granted before and at clock 0
+  at-zero : eventsPrint setup (Post first ∷ Steps 1 ∷ []) (from (arbitrating true 0)) ≡ bytes ("P 0 3 0" ∷ "G 130 3" ∷ "E 130 0" ∷ [])
+  -- refusal 6 by 130, to the nanosecond
+  last : eventsPrint setup (Steps 1 ∷ []) (from (arbitrating true 3999999870)) ≡ bytes ("G 4000000000 15" ∷ "E 4000000000 0" ∷ [])
+  past : eventsPrint setup (Steps 1 ∷ []) (from (arbitrating true 3999999871)) ≡ bytes ("X 3999999871 6" ∷ "E 3999999871 0" ∷ [])
+  -- each part of the clause, and the same channel granted before
+  owner : isSound setup (standing (Granted 15) false 0 (freshChannel .inactive)) ≡ false
+  owner-before : isSound setup (standing (Granted 15) true 0 (freshChannel .inactive)) ≡ true
+  mark : isSound setup (marked false) ≡ false
+  mark-before : isSound setup (marked true) ≡ true
+  clock : isSound setup (arbitrating false 1) ≡ false
+  clock-before : isSound setup (arbitrating true 1) ≡ true
+  -- an open request is none of the three
+  waiting : isSound setup (withRequest (arbitrating false 0) 7 (requestIn second)) ≡ true
+  waiting-before : isSound setup (withRequest (arbitrating true 0) 7 (requestIn second)) ≡ true
+
 -- the lines that the sheet does not have, and a choice that it does not have to make: our own events, over its set-up
 record Lines : Type 0 where
   -- an empty sheet
   bad : sheetPrint [] ≡ bytes ("S 10 0" ∷ [])
-  -- level 15 owns the channel without a request: idle, and then a release
+  -- level 15 owns the channel without a request: idle, and then a release; the arbitration after that is not the first
   idle : eventsPrint setup (Steps 2 ∷ Post first ∷ Steps 2 ∷ []) (begun setup)
-      ≡ bytes ("G 100 15" ∷ "I 100" ∷ "P 100 3 0" ∷ "R 100 15" ∷ "G 200 3" ∷ "E 200 0" ∷ [])
+      ≡ bytes ("G 100 15" ∷ "I 100" ∷ "P 100 3 0" ∷ "R 100 15" ∷ "G 230 3" ∷ "E 230 0" ∷ [])
   -- two levels wait: the lowest-numbered wins
   lowest : eventsPrint setup (Post second ∷ Post first ∷ Steps 1 ∷ []) (begun setup)
       ≡ bytes ("P 0 7 0" ∷ "P 0 3 0" ∷ "G 100 3" ∷ "E 100 0" ∷ [])
   -- the clock would pass 4,000,000,000: the event ends there, the next goes on
-  stops : eventsPrint setup (Post first ∷ Steps 3 ∷ Post second ∷ []) (world (clocked freshChannel 3999999800) noTally (replicate 16 0) (replicate 4096 0))
-      ≡ bytes ("P 3999999800 3 0" ∷ "G 3999999900 3" ∷ "X 3999999900 6" ∷ "P 3999999900 7 0" ∷ "E 3999999900 0" ∷ [])
+  stops : eventsPrint setup (Post first ∷ Steps 3 ∷ Post second ∷ []) (from (arbitrating true 3999999800))
+      ≡ bytes ("P 3999999800 3 0" ∷ "G 3999999930 3" ∷ "X 3999999930 6" ∷ "P 3999999930 7 0" ∷ "E 3999999930 0" ∷ [])
   -- level 7 asks inside a transfer of level 3, which does not linger: nothing is released before its end
   not-torn : eventsPrint setup (Post first ∷ Steps 1 ∷ Post second ∷ Steps 2 ∷ []) (begun setup)
       ≡ bytes ("P 0 3 0" ∷ "G 100 3" ∷ "P 100 7 0" ∷ "C 300 3 4097 1 1 1 1 0" ∷ "C 500 3 4098 2 1 2 0 2" ∷ "E 500 3" ∷ [])
@@ -176,7 +214,7 @@ pub record History : Type 0 where
   pub master-3 : lastInto setup masterSide 3 begin acts ≡ start
   pub as-runs : actsOver setup begin asRuns ≡ acts
 
-computed : Whole × (Lines × (Bursts × History))
+computed : Whole × (Lines × (Bursts × (Grants × History)))
 unfolding codes bytes
     sheetPrint sheet body head headOf countedRows countedEvents event stepCount numberBetween numbersOf readNumber bytesOf listAt
     eventsFrom eventCount setupOf eventAt nextEvent eventFrom eventOf
@@ -184,7 +222,8 @@ unfolding codes bytes
     isRowCount isMasterLength isLevelInRange isRising isLastFifteen levelRowFits levelsFit isTime limitOf isPlaced isSlaveInRange areApart isApart
     lengthsBefore slaveRowFits slavesFit isFramed levelIndex levelRow rowHolds slaveIndex slaveRow slaveStoreLength
     withRequest waits drives lineActive asks othersAsk clearMarks setAsked winnerFrom
-    isPresent levelOf slaveOf startOf isInRange requestVerdict transferOf allowanceOf isWithin isGrantSound isOwnerSound isBlank isRequestSound
+    isPresent levelOf slaveOf startOf isInRange requestVerdict transferOf allowanceOf isWithin areUnmarked isNeverGrantedSound isGrantSound isOwnerSound
+    isBlank isRequestSound
     areRequestsSound isMarkSound areMarksSound isInTime isAskedAt isAskedSound isSound
     postVerdict posted postOf
     routeOf restAfter nextTime cycleOf isLate isLeaving endingOf clocked freed movedOn cycleEntry cycleTurn arbitrationTime granted grantTurn leaveTurn
@@ -224,30 +263,45 @@ computed = (
         at-later = refl;
         hold-later = refl;
       },
-      record {
-        begins = refl;
-        framed = refl;
-        slave-length = refl;
-        master-length = refl;
-        log = refl;
-        slave-then = refl;
-        master-then = refl;
-        owner = refl;
-        request = refl;
-        owner-until = refl;
-        first-moment = refl;
-        asked-3 = refl;
-        asked-7 = refl;
-        open-3 = refl;
-        open-7 = refl;
-        into-3 = refl;
-        into-0 = refl;
-        master-3 = refl;
-        as-runs = refl;
-      },
+      (
+        record {
+          at-zero = refl;
+          last = refl;
+          past = refl;
+          owner = refl;
+          owner-before = refl;
+          mark = refl;
+          mark-before = refl;
+          clock = refl;
+          clock-before = refl;
+          waiting = refl;
+          waiting-before = refl;
+        },
+        record {
+          begins = refl;
+          framed = refl;
+          slave-length = refl;
+          master-length = refl;
+          log = refl;
+          slave-then = refl;
+          master-then = refl;
+          owner = refl;
+          request = refl;
+          owner-until = refl;
+          first-moment = refl;
+          asked-3 = refl;
+          asked-7 = refl;
+          open-3 = refl;
+          open-7 = refl;
+          into-3 = refl;
+          into-0 = refl;
+          master-3 = refl;
+          as-runs = refl;
+        },
+      ),
     ),
   ),
 )
 
 pub history : History
-history = computed .1 .1 .1
+history = computed .1 .1 .1 .1

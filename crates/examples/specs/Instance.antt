@@ -61,10 +61,10 @@ entries =
     Grant 100 3
     ∷ cycleBy 300 3 4097 1 1 1 1 Kept
     ∷ cycleBy 500 3 4098 2 1 2 0 (Marked 200)
-    ∷ Grant 600 7
-    ∷ cycleBy 800 7 4096 2 0 0 0 (Marked 200)
-    ∷ Grant 900 3
-    ∷ cycleBy 1100 3 4100 2 1 0 0 Kept
-    ∷ cycleBy 1300 3 4102 2 1 2 0 (Released Unasked)
-    ∷ Grant 1400 15
+    ∷ Grant 630 7
+    ∷ cycleBy 830 7 4096 2 0 0 0 (Marked 200)
+    ∷ Grant 960 3
+    ∷ cycleBy 1160 3 4100 2 1 0 0 Kept
+    ∷ cycleBy 1360 3 4102 2 1 2 0 (Released Unasked)
+    ∷ Grant 1490 15
     ∷ []

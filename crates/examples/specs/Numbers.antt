@@ -73,7 +73,7 @@ abbrev pub isOver : Channel → ℕ → Bool
 isOver ch time = ltb clockLimit (ch .clock + time)
 
 abbrev pub passes : Setup → Channel → Phase → Bool
-passes setup ch Arbitrating = isOver ch arbitrationTime
+passes setup ch Arbitrating = isOver ch (arbitrationTime (ch .ever))
 passes setup ch (Granted o) = not (eqb (requestOf ch o .left) 0) && isOver ch (slaveOf (setup .slaves) (requestOf ch o) .time)
 
 abbrev pub stepRows : Setup → Channel → ℕ → ℕ → List RefusalRow

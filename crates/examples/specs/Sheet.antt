@@ -58,7 +58,7 @@ second = orderBy 7 0 1 4096 2 16
 abbrev pub sheetEvents : List Event
 sheetEvents = Post first ∷ Steps 2 ∷ Post second ∷ Steps 7 ∷ []
 
--- "Output"
+-- "Output", with the clocks of document 02, CR 2: "The whole sheet's grants now fall at 100, 630, 960 and 1490, and it ends at 1490."
 abbrev pub output : List String
 output =
     "P 0 3 0"
@@ -66,11 +66,11 @@ output =
     ∷ "C 300 3 4097 1 1 1 1 0"
     ∷ "P 300 7 0"
     ∷ "C 500 3 4098 2 1 2 0 2"
-    ∷ "G 600 7"
-    ∷ "C 800 7 4096 2 0 0 0 2"
-    ∷ "G 900 3"
-    ∷ "C 1100 3 4100 2 1 0 0 0"
-    ∷ "C 1300 3 4102 2 1 2 0 1"
-    ∷ "G 1400 15"
-    ∷ "E 1400 9"
+    ∷ "G 630 7"
+    ∷ "C 830 7 4096 2 0 0 0 2"
+    ∷ "G 960 3"
+    ∷ "C 1160 3 4100 2 1 0 0 0"
+    ∷ "C 1360 3 4102 2 1 2 0 1"
+    ∷ "G 1490 15"
+    ∷ "E 1490 9"
     ∷ []

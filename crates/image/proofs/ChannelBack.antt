@@ -24,7 +24,7 @@ use Rattle.channel.specs.declared.Channel.{Channel}
 use Rattle.channel.specs.declared.Request.{Request}
 use Rattle.channel.specs.Channel.{requestOf, noRequest, withRequest, changed, freshChannel, Shaped}
 use Rattle.channel.proofs.RequestLaws.{same-channel, request-same, request-other, fresh-shaped, with-shaped, changed-shaped}
-use Rattle.image.specs.Layout.{phaseNumber, askedNumbers, marksNumber, requestNumbers, requestsNumbers, channelNumbers}
+use Rattle.image.specs.Layout.{flagNumber, phaseNumber, askedNumbers, marksNumber, requestNumbers, requestsNumbers, channelNumbers}
 use Rattle.image.specs.Read.{
   phaseOf,
   marksOf,
@@ -35,14 +35,19 @@ use Rattle.image.specs.Read.{
   channelRead,
   marksAt,
   ownerAt,
+  clockAt,
   stateAt,
   requestsAt,
   channelPartAt,
 }
-use Rattle.image.proofs.MarkLaws.{marks-most, marks-back}
+use Rattle.image.proofs.MarkLaws.{flag-most, marks-most, marks-back}
 use Rattle.image.proofs.ChannelSpelt.{marksNumbers, stateNumbers, fresh-none, channel-parts}
 
--- the phase by its own number
+-- the flag by its own number, which is one of two, and the phase by its
+flag-is : (so : Bool) → eqb (flagNumber so) 1 ≡ so
+flag-is true = refl
+flag-is false = refl
+
 phase-is : (phase : Phase) → phaseOf (phaseNumber phase) ≡ phase
 phase-is Arbitrating = refl
 phase-is (Granted owner) = rw (add-one owner)
@@ -72,10 +77,10 @@ module _ (src : Source) where
   module _ (ch : Channel) (shaped : Shaped ch) where
     -- the state: a channel that has it and no requests
     abbrev begun : Channel
-    begun = changed freshChannel (ch .phase) (ch .asked) (ch .clock) (ch .inactive)
+    begun = changed freshChannel (ch .phase) (ch .asked) (ch .ever) (ch .clock) (ch .inactive)
 
     marks-read : (at : ℕ) {end : ℕ} → Spells src at (marksNumbers ch) end
-        → marksAt src (ch .clock) (ch .phase) at ≡ channelRead begun (Good end)
+        → marksAt src (ch .ever) (ch .clock) (ch .phase) at ≡ channelRead begun (Good end)
     unfolding marksAt
     marks-read at s =
         let t = spells-split (askedNumbers (ch .asked)) s in
@@ -86,15 +91,23 @@ module _ (src : Source) where
 
     state-read : phaseNumber (ch .phase) ≤ places → (at : ℕ) {end : ℕ} → Spells src at (stateNumbers ch) end
         → stateAt src at ≡ channelRead begun (Good end)
-    unfolding stateAt ownerAt
+    unfolding stateAt clockAt ownerAt
     state-read owner at s =
-        let f = spells-first s in
+        let e = spells-first s in
+        let f = spells-first (e .2) in
         let g = spells-first (f .2) in
-        rw (f .1, ranged-by src 0 places (refusalBy 18) (f .0) (g .1) (omega arith) owner, phase-is (ch .phase)) (marks-read (g .0) (g .2))
+        rw (
+          ranged-by src 0 1 (refusalBy 18) at (e .1) (omega arith) (flag-most (ch .ever)),
+          flag-is (ch .ever),
+          f .1,
+          ranged-by src 0 places (refusalBy 18) (f .0) (g .1) (omega arith) owner,
+          phase-is (ch .phase),
+        )
+        (marks-read (g .0) (g .2))
 
     -- of the requests those of the levels below l are the channel's, and there are no others
     record Filled (l : ℕ) (own : Channel) : Type 0 where
-      state : begun ≡ changed freshChannel (own .phase) (own .asked) (own .clock) (own .inactive)
+      state : begun ≡ changed freshChannel (own .phase) (own .asked) (own .ever) (own .clock) (own .inactive)
       shaped-own : Shaped own
       request : (j : ℕ) → j < l → requestOf own j ≡ requestOf ch j
       none : (j : ℕ) → l ≤ j → requestOf own j ≡ noRequest
@@ -107,6 +120,7 @@ module _ (src : Source) where
         same-channel own ch
         (ap (λ (c : Channel). c .phase) (sym (f .state)))
         (ap (λ (c : Channel). c .asked) (sym (f .state)))
+        (ap (λ (c : Channel). c .ever) (sym (f .state)))
         (ap (λ (c : Channel). c .clock) (sym (f .state)))
         (ap (λ (c : Channel). c .inactive) (sym (f .state)))
         (ext-getD 0 (own .direction) (ch .direction) (s .direction ∙ sym (shaped .direction))
@@ -177,7 +191,7 @@ module _ (src : Source) where
           let t = spells-split (stateNumbers ch) (spells-as (sym (channel-parts ch)) s) in
           let empty : Filled 0 begun = record {
             state = refl;
-            shaped-own = changed-shaped freshChannel (ch .phase) (ch .asked) (ch .clock) (ch .inactive) (shaped .inactive) fresh-shaped;
+            shaped-own = changed-shaped freshChannel (ch .phase) (ch .asked) (ch .ever) (ch .clock) (ch .inactive) (shaped .inactive) fresh-shaped;
             request = λ j k. absurd (omega arith);
             none = λ j k. fresh-none j;
           } in

@@ -31,7 +31,7 @@ use Rattle.channel.specs.Channel.{requestOf, noRequest, withRequest, changed, f
 use Rattle.channel.proofs.RequestLaws.{request-same, request-other, fresh-shaped, with-shaped, changed-shaped}
 use Rattle.image.specs.declared.AskedRead.{AskedRead}
 use Rattle.image.specs.declared.ChannelRead.{ChannelRead}
-use Rattle.image.specs.Layout.{phaseNumber, askedNumbers, marksNumber, requestNumbers, requestsNumbers, channelNumbers}
+use Rattle.image.specs.Layout.{flagNumber, phaseNumber, askedNumbers, marksNumber, requestNumbers, requestsNumbers, channelNumbers}
 use Rattle.image.specs.Read.{
   numberIn,
   phaseOf,
@@ -44,6 +44,7 @@ use Rattle.image.specs.Read.{
   thenState,
   marksAt,
   ownerAt,
+  clockAt,
   stateAt,
   requestFrom,
   requestsAt,
@@ -78,7 +79,12 @@ module _ (P : Channel → ℕ → Type 0) where
   state-cond true x y p q = p refl
   state-cond false x y p q = q refl
 
--- the number of the phase that it stands for
+-- the number of the flag, and of the phase, that it stands for
+flag-back : (n : ℕ) → n ≤ 1 → flagNumber (eqb n 1) ≡ n
+flag-back zero h = refl
+flag-back (suc zero) h = refl
+flag-back (suc (suc n)) h = absurd (omega arith)
+
 phase-back : (n : ℕ) → phaseNumber (phaseOf n) ≡ n
 phase-back zero = refl
 phase-back (suc owner) = add-one owner
@@ -89,21 +95,24 @@ fresh-none l =
     let zero-at : getD (freshChannel .left) l 0 ≡ 0 = replicate-at places l 0 in
     λ i. record { direction = zero-at i; space = zero-at i; address = zero-at i; left = zero-at i; offset = zero-at i }
 
--- the state of a channel: asked time and marks, the owner before them, the clock before it
+-- the state of a channel: asked time and marks, the owner before them, the clock before it, and whether it was ever granted before that
 abbrev pub marksNumbers : Channel → List ℕ
 marksNumbers ch = askedNumbers (ch .asked) ++ (marksNumber (ch .inactive) ∷ [])
 
 abbrev pub ownerNumbers : Channel → List ℕ
 ownerNumbers ch = phaseNumber (ch .phase) ∷ marksNumbers ch
 
+abbrev pub clockNumbers : Channel → List ℕ
+clockNumbers ch = ch .clock ∷ ownerNumbers ch
+
 abbrev pub stateNumbers : Channel → List ℕ
-stateNumbers ch = ch .clock ∷ ownerNumbers ch
+stateNumbers ch = flagNumber (ch .ever) ∷ clockNumbers ch
 
 -- the whole channel is its state and its requests
 pub channel-parts : (ch : Channel) → stateNumbers ch ++ requestsNumbers ch places 0 ≡ channelNumbers ch
 unfolding channelNumbers
 channel-parts ch =
-    ap (λ (x : List ℕ). ch .clock ∷ phaseNumber (ch .phase) ∷ x)
+    ap (λ (x : List ℕ). flagNumber (ch .ever) ∷ ch .clock ∷ phaseNumber (ch .phase) ∷ x)
     (append-assoc (askedNumbers (ch .asked)) (marksNumber (ch .inactive) ∷ []) (requestsNumbers ch places 0))
 
 module _ (src : Source) where
@@ -133,58 +142,76 @@ module _ (src : Source) where
     none : (l : ℕ) → requestOf ch l ≡ noRequest
 
   -- asked time and marks
-  abbrev MarksTold : ℕ → Phase → ℕ → Channel → ℕ → Type 0
-  MarksTold clock phase = StateTold marksNumbers (λ ch. (ch .clock ≡ clock) × (ch .phase ≡ phase))
+  abbrev MarksTold : Bool → ℕ → Phase → ℕ → Channel → ℕ → Type 0
+  MarksTold ever clock phase = StateTold marksNumbers (λ ch. (ch .phase ≡ phase) × (ch .clock ≡ clock) × (ch .ever ≡ ever))
 
-  marks-told : (clock : ℕ) (phase : Phase) (at : ℕ) → State (MarksTold clock phase at) (marksAt src clock phase at)
+  marks-told : (ever : Bool) (clock : ℕ) (phase : Phase) (at : ℕ) → State (MarksTold ever clock phase at) (marksAt src ever clock phase at)
   unfolding marksAt
-  marks-told clock phase at =
+  marks-told ever clock phase at =
       let when = askedAt src at in
-      state-then (MarksTold clock phase at) (when .part) freshChannel _ (λ next e.
-      state-with (MarksTold clock phase at) (numberIn src 0 marksMost next) freshChannel _ (λ n end g.
+      state-then (MarksTold ever clock phase at) (when .part) freshChannel _ (λ next e.
+      state-with (MarksTold ever clock phase at) (numberIn src 0 marksMost next) freshChannel _ (λ n end g.
       let r = in-range src 0 marksMost (refusalBy 18) next g in
       let marks = marksOf places n in
       let back : n ≡ marksNumber marks = sym (marks-number-back n (r .most)) in
-      at-good (MarksTold clock phase at (changed freshChannel phase (when .asked) clock marks))
+      at-good (MarksTold ever clock phase at (changed freshChannel phase (when .asked) ever clock marks))
       (record {
         spelt = spells-append (asked-told at next e) (spells-one (r .stands ∙ ap (λ (v : ℕ). Number v end) back));
-        known = (refl, refl);
-        shaped = changed-shaped freshChannel phase (when .asked) clock marks (marks-length places n) fresh-shaped;
+        known = (refl, refl, refl);
+        shaped = changed-shaped freshChannel phase (when .asked) ever clock marks (marks-length places n) fresh-shaped;
         none = fresh-none;
       })))
 
   -- the owner before them
-  abbrev OwnerTold : ℕ → ℕ → Channel → ℕ → Type 0
-  OwnerTold clock = StateTold ownerNumbers (λ ch. (ch .clock ≡ clock) × (phaseNumber (ch .phase) ≤ places))
+  abbrev OwnerTold : Bool → ℕ → ℕ → Channel → ℕ → Type 0
+  OwnerTold ever clock = StateTold ownerNumbers (λ ch. (phaseNumber (ch .phase) ≤ places) × (ch .clock ≡ clock) × (ch .ever ≡ ever))
 
-  owner-told : (clock at : ℕ) → State (OwnerTold clock at) (ownerAt src clock at)
+  owner-told : (ever : Bool) (clock at : ℕ) → State (OwnerTold ever clock at) (ownerAt src ever clock at)
   unfolding ownerAt
-  owner-told clock at =
-      state-with (OwnerTold clock at) (numberIn src 0 places at) freshChannel _ (λ n next e end g.
+  owner-told ever clock at =
+      state-with (OwnerTold ever clock at) (numberIn src 0 places at) freshChannel _ (λ n next e end g.
       let r = in-range src 0 places (refusalBy 18) at e in
-      let m = marks-told clock (phaseOf n) next end g in
-      let number : phaseNumber (marksAt src clock (phaseOf n) next .channel .phase) ≡ n = ap phaseNumber (m .known .1) ∙ phase-back n in
+      let m = marks-told ever clock (phaseOf n) next end g in
+      let number : phaseNumber (marksAt src ever clock (phaseOf n) next .channel .phase) ≡ n = ap phaseNumber (m .known .0) ∙ phase-back n in
       record {
         spelt = then (r .stands ∙ ap (λ (v : ℕ). Number v next) (sym number)) (m .spelt);
-        known = (m .known .0, omega (arith, number, r .most));
+        known = (omega (arith, number, r .most), m .known .1, m .known .2);
         shaped = m .shaped;
         none = m .none;
       })
 
-  -- the clock before it: the whole state
+  -- the clock before it
+  abbrev ClockTold : Bool → ℕ → Channel → ℕ → Type 0
+  ClockTold ever = StateTold clockNumbers (λ ch. (phaseNumber (ch .phase) ≤ places) × (ch .ever ≡ ever))
+
+  clock-told : (ever : Bool) (at : ℕ) → State (ClockTold ever at) (clockAt src ever at)
+  unfolding clockAt
+  clock-told ever at =
+      state-with (ClockTold ever at) (src at) freshChannel _ (λ clock next e end g.
+      let o = owner-told ever clock next end g in
+      record {
+        spelt = then (e ∙ ap (λ (v : ℕ). Number v next) (sym (o .known .1))) (o .spelt);
+        known = (o .known .0, o .known .2);
+        shaped = o .shaped;
+        none = o .none;
+      })
+
+  -- whether it was ever granted before that: the whole state
   abbrev WholeState : ℕ → Channel → ℕ → Type 0
   WholeState = StateTold stateNumbers (λ ch. phaseNumber (ch .phase) ≤ places)
 
   state-told : (at : ℕ) → State (WholeState at) (stateAt src at)
   unfolding stateAt
   state-told at =
-      state-with (WholeState at) (src at) freshChannel _ (λ clock next e end g.
-      let o = owner-told clock next end g in
+      state-with (WholeState at) (numberIn src 0 1 at) freshChannel _ (λ n next e end g.
+      let r = in-range src 0 1 (refusalBy 18) at e in
+      let c = clock-told (eqb n 1) next end g in
+      let number : flagNumber (clockAt src (eqb n 1) next .channel .ever) ≡ n = ap flagNumber (c .known .1) ∙ flag-back n (r .most) in
       record {
-        spelt = then (e ∙ ap (λ (v : ℕ). Number v next) (sym (o .known .0))) (o .spelt);
-        known = o .known .1;
-        shaped = o .shaped;
-        none = o .none;
+        spelt = then (r .stands ∙ ap (λ (v : ℕ). Number v next) (sym number)) (c .spelt);
+        known = c .known .0;
+        shaped = c .shaped;
+        none = c .none;
       })
 
   -- the requests of `more` places from level l on, read into the channel `first`, which has none there
@@ -271,7 +298,7 @@ module _ (src : Source) where
   all-told : (len at next : ℕ) (state ch : Channel) (end : ℕ) → WholeState at state next → RequestsTold places 0 next state ch end → len ≤ end
       → ChannelTold len at ch end
   all-told len at next state ch end s q h =
-      let same = ap (λ (x : List ℕ). getD x 1 0) (q .state) in
+      let same = ap (λ (x : List ℕ). getD x 2 0) (q .state) in
       record {
         spelt = spells-as (channel-parts ch) (spells-append (spells-as (sym (q .state)) (s .spelt)) (q .spelt));
         whole = h;

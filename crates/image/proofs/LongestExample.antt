@@ -1,4 +1,4 @@
--- There is an image of 409 bytes, computed by the checker from the definitions: the bound on an image's length is met. Assumes nothing.
+-- There is an image of 410 bytes, computed by the checker from the definitions: the bound on an image's length is met. Assumes nothing.
 use Prim.Native.Nat.{ℕ, zero, suc, _+_}
 use mathlib.Core.Path.{_≡_, refl}
 use mathlib.Core.Bool.{true, false}
@@ -40,6 +40,7 @@ use Rattle.channel.specs.Slave.{slaveOf, startOf}
 use Rattle.act.specs.Cycle.{routeOf, nextTime}
 use Rattle.sound.specs.Request.{isInRange, requestVerdict, transferOf}
 use Rattle.sound.specs.Sound.{
+  isNeverGrantedSound,
   isGrantSound,
   isOwnerSound,
   isBlank,
@@ -79,6 +80,7 @@ channel =
     record {
       phase = Granted 0;
       asked = At 4000000000;
+      ever = true;
       clock = 4000000000;
       inactive = replicate 14 false ++ (true ∷ false ∷ []);
       direction = replicate 16 1;
@@ -98,6 +100,6 @@ unfolding allBelow anyBelow firstFrom isLength isWidth isPort transferTime bytes
     isRowCount isMasterLength isLevelInRange isRising isLastFifteen levelRowFits levelsFit isTime limitOf isPlaced isSlaveInRange areApart isApart
     lengthsBefore slaveRowFits slavesFit isFramed levelIndex levelRow rowHolds slaveIndex slaveRow
     drives lineActive isPresent levelOf slaveOf startOf isInRange requestVerdict transferOf allowanceOf isWithin routeOf nextTime
-    isGrantSound isOwnerSound isBlank isRequestSound areRequestsSound isMarkSound areMarksSound isInTime isAskedAt isAskedSound isSound
+    isNeverGrantedSound isGrantSound isOwnerSound isBlank isRequestSound areRequestsSound isMarkSound areMarksSound isInTime isAskedAt isAskedSound isSound
     headNumbers setupNumbers requestsNumbers channelNumbers imageBytes
 reached = record { framed = refl; sound = refl; longest = refl }

@@ -1,4 +1,4 @@
--- The image of a framed set-up and a sound channel has at most 409 bytes, and each of its numbers is at most 4,294,967,295. A level row has 3 bytes; a slave
+-- The image of a framed set-up and a sound channel has at most 410 bytes, and each of its numbers is at most 4,294,967,295. A level row has 3 bytes; a slave
 -- row 10, and one more where its length has three bytes, which at most three of sixteen rows can have; a request at most 11. Assumes nothing.
 use Prim.Native.Nat.{ℕ, zero, suc, _+_, _*_, _≤_, _<_}
 use mathlib.Core.Path.{_≡_, refl, ap}
@@ -49,6 +49,8 @@ use Rattle.image.specs.Layout.{
   countedNumbers,
   headNumbers,
   setupNumbers,
+  layoutNumber,
+  flagNumber,
   phaseNumber,
   askedNumbers,
   marksNumber,
@@ -58,7 +60,7 @@ use Rattle.image.specs.Layout.{
   imageBytes,
   imageMost,
 }
-use Rattle.image.proofs.MarkLaws.{marks-most}
+use Rattle.image.proofs.MarkLaws.{flag-most, marks-most}
 
 -- a level row
 level-small : (row : LevelRow) → LevelFacts row → Small (levelNumbers row) 3
@@ -138,7 +140,7 @@ module _ (setup : Setup) (framed : isFramed setup ≡ true) where
   pub setup-small : Small (setupNumbers setup) 218
   unfolding setupNumbers headNumbers
   setup-small =
-      small-first 0 1 (omega arith) (omega arith)
+      small-first 0 layoutNumber (omega arith) (omega arith)
       (small-append
       (small-first 0 1 (omega arith) (omega arith) (small-append level-table-small slave-table-small))
       (small-first 2 (setup .master) (omega arith) (omega (arith, framed-master setup framed)) small-none))
@@ -188,14 +190,15 @@ module _ (setup : Setup) (ch : Channel) (framed : isFramed setup ≡ true) (soun
   owner-most Arbitrating e = omega arith
   owner-most (Granted owner) e = omega (arith, facts .settled .owner owner e .small)
 
-  pub channel-small : Shaped ch → Small (channelNumbers ch) 191
+  pub channel-small : Shaped ch → Small (channelNumbers ch) 192
   unfolding channelNumbers
   channel-small shaped =
-      small-any (ch .clock) (omega (arith, facts .settled .clock))
+      small-first 0 (flagNumber (ch .ever)) (omega arith) (omega (arith, flag-most (ch .ever)))
+      (small-any (ch .clock) (omega (arith, facts .settled .clock))
       (small-first 0 (phaseNumber (ch .phase)) (omega arith) (omega (arith, owner-most (ch .phase) refl))
       (small-append (asked-small (ch .asked) refl)
       (small-first 2 (marksNumber (ch .inactive)) (omega arith) (omega (arith, marks-most (ch .inactive) (omega (arith, shaped .inactive))))
-      (requests-small places 0 (omega arith)))))
+      (requests-small places 0 (omega arith))))))
 
   pub image-small : Shaped ch → Small (setupNumbers setup ++ channelNumbers ch) imageMost
   image-small shaped = small-append (setup-small setup framed) (channel-small shaped)

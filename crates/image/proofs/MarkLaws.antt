@@ -11,8 +11,13 @@ use lib.Seq.{sets, sets-eq, drop-cons}
 use lib.Dec.{eqb}
 use Rattle.basics.specs.Limits.{places}
 use Rattle.basics.proofs.Tests.{by-test}
-use Rattle.image.specs.Layout.{marksNumber}
+use Rattle.image.specs.Layout.{flagNumber, marksNumber}
 use Rattle.image.specs.Read.{marksOf, marksMost}
+
+-- a flag's number is 0 or 1
+pub flag-most : (so : Bool) → flagNumber so ≤ 1
+flag-most true = omega arith
+flag-most false = omega arith
 
 pub marks-length : (left n : ℕ) → length (marksOf left n) ≡ left
 marks-length zero n = refl
@@ -49,7 +54,7 @@ marks-most marks h = omega (arith, marks-below marks places h)
 
 -- the number of the marks from a place on
 pub marks-from : (marks : List Bool) (level : ℕ) → level < length marks
-    → marksNumber (drop level marks) ≡ cond (getD marks level false) 1 0 + 2 * marksNumber (drop (level + 1) marks)
+    → marksNumber (drop level marks) ≡ flagNumber (getD marks level false) + 2 * marksNumber (drop (level + 1) marks)
 marks-from marks level h = rw (drop-cons marks level false h, add-one)
 
 -- Each way back: the marks by their number, and the number of the marks.

@@ -21,7 +21,7 @@ use Rattle.channel.specs.declared.Asked.the-variants.{Never, At}
 use Rattle.channel.specs.declared.Channel.{Channel}
 use Rattle.channel.specs.declared.Request.{Request}
 use Rattle.channel.specs.Channel.{requestOf}
-use Rattle.image.specs.Layout.{phaseNumber, askedNumbers, marksNumber, requestNumbers, requestsNumbers, channelNumbers}
+use Rattle.image.specs.Layout.{flagNumber, phaseNumber, askedNumbers, marksNumber, requestNumbers, requestsNumbers, channelNumbers}
 
 -- bytes were laid from a place on: where they end, and what the row is then; the same of a list of numbers
 abbrev pub Put : List ℕ → ℕ → List ℕ → ℕ → List ℕ → Type 0
@@ -109,28 +109,31 @@ asked-most (At time) = omega arith
 pub asked-size : (asked : Asked) → length (allBytes (askedNumbers asked)) ≤ 10
 asked-size asked = omega (arith, sizes-most (askedNumbers asked), asked-most asked)
 
--- the whole channel: clock, owner, asked time, marks and requests, each after the other
-pub channel-laid : (ch : Channel) (row : List ℕ) (at : ℕ) {p n second third fourth fifth end : ℕ} {b c d e after : List ℕ}
-    → Put row at (bytesOf (ch .clock)) second b → p ≡ phaseNumber (ch .phase) → Put b second (bytesOf p) third c
-    → Laid c third (askedNumbers (ch .asked)) fourth d → n ≡ marksNumber (ch .inactive) → Put d fourth (bytesOf n) fifth e
-    → Laid e fifth (requestsNumbers ch places 0) end after
+-- the whole channel: whether it was ever granted, clock, owner, asked time, marks and requests, each after the other
+pub channel-laid : (ch : Channel) (row : List ℕ) (at : ℕ) {v p n second third fourth fifth sixth end : ℕ} {b c d e f after : List ℕ}
+    → v ≡ flagNumber (ch .ever) → Put row at (bytesOf v) second b → Put b second (bytesOf (ch .clock)) third c
+    → p ≡ phaseNumber (ch .phase) → Put c third (bytesOf p) fourth d
+    → Laid d fourth (askedNumbers (ch .asked)) fifth e → n ≡ marksNumber (ch .inactive) → Put e fifth (bytesOf n) sixth f
+    → Laid f sixth (requestsNumbers ch places 0) end after
     → Laid row at (channelNumbers ch) end after
 unfolding channelNumbers
-channel-laid ch row at {p} {n} {second} {third} {fourth} {fifth} {end} {b} {c} {d} {e} {after} clock p-is phase asked n-is marks requests =
+channel-laid ch row at {v} {p} {n} {second} {third} {fourth} {fifth} {sixth} {end} {b} {c} {d} {e} {f} {after} v-is ever clock p-is phase asked
+    n-is marks requests =
     let four = marksNumber (ch .inactive) ∷ requestsNumbers ch places 0 in
     let three = askedNumbers (ch .asked) ++ four in
-    let last = laid-more d fourth (marksNumber (ch .inactive)) (requestsNumbers ch places 0) (rw n-is at marks) requests in
-    let when = laid-both c third (askedNumbers (ch .asked)) four asked last in
-    let owner = laid-more b second (phaseNumber (ch .phase)) three (rw p-is at phase) when in
-    laid-more row at (ch .clock) (phaseNumber (ch .phase) ∷ three) clock owner
+    let last = laid-more e fifth (marksNumber (ch .inactive)) (requestsNumbers ch places 0) (rw n-is at marks) requests in
+    let when = laid-both d fourth (askedNumbers (ch .asked)) four asked last in
+    let owner = laid-more c third (phaseNumber (ch .phase)) three (rw p-is at phase) when in
+    let time = laid-more b second (ch .clock) (phaseNumber (ch .phase) ∷ three) clock owner in
+    laid-more row at (flagNumber (ch .ever)) (ch .clock ∷ phaseNumber (ch .phase) ∷ three) (rw v-is at ever) time
 
-channel-most : (ch : Channel) → length (channelNumbers ch) ≤ 5 + 5 * places
+channel-most : (ch : Channel) → length (channelNumbers ch) ≤ 6 + 5 * places
 unfolding channelNumbers
 channel-most ch =
     let both = length-append (askedNumbers (ch .asked)) (marksNumber (ch .inactive) ∷ requestsNumbers ch places 0) in
     omega (arith, both, asked-most (ch .asked), requests-most ch places 0)
 
-pub channel-size : (ch : Channel) → length (allBytes (channelNumbers ch)) ≤ 25 + 25 * places
+pub channel-size : (ch : Channel) → length (allBytes (channelNumbers ch)) ≤ 30 + 25 * places
 channel-size ch = omega (arith, sizes-most (channelNumbers ch), channel-most ch)
 
 -- bytes copied one by one

@@ -23,7 +23,7 @@ use Rattle.channel.specs.Channel.{requestOf}
 
 -- the layout's own number: where a set-up or a channel grows, it goes up
 abbrev pub layoutNumber : ℕ
-layoutNumber = 1
+layoutNumber = 2
 
 -- the edition of the head is always the newest, whatever the sheet had that the set-up came from: one set-up has one image
 abbrev pub newestEdition : ℕ
@@ -55,6 +55,10 @@ headNumbers setup = newestEdition ∷ (countedNumbers setup Levels ++ countedNum
 unfoldable pub setupNumbers : Setup → List ℕ
 setupNumbers setup = layoutNumber ∷ (headNumbers setup ++ (setup .master ∷ []))
 
+-- 1 for what is so, and 0 for what isn't
+abbrev pub flagNumber : Bool → ℕ
+flagNumber so = cond so 1 0
+
 -- "The channel is arbitrating, or granted to one level.": 0, or 1 more than the owner's place
 abbrev pub phaseNumber : Phase → ℕ
 phaseNumber Arbitrating = 0
@@ -68,7 +72,7 @@ askedNumbers (At time) = 1 ∷ time ∷ []
 -- "an inactive mark per level": the sum of 2 to the power of each marked place
 abbrev pub marksNumber : List Bool → ℕ
 marksNumber [] = 0
-marksNumber (marked ∷ rest) = cond marked 1 0 + 2 * marksNumber rest
+marksNumber (marked ∷ rest) = flagNumber marked + 2 * marksNumber rest
 
 -- a place: what is left of its request and, unless that is 0, the request's other numbers
 abbrev pub requestNumbers : Request → List ℕ
@@ -80,9 +84,11 @@ unfoldable pub requestsNumbers : Channel → ℕ → ℕ → List ℕ
 requestsNumbers ch zero l = []
 requestsNumbers ch (suc left) l = requestNumbers (requestOf ch l) ++ requestsNumbers ch left (l + 1)
 
+-- document 02, CR 2: "The channel and its image keep whether it has ever been granted": that first, and then the rest
 unfoldable pub channelNumbers : Channel → List ℕ
 channelNumbers ch =
-    ch .clock ∷ phaseNumber (ch .phase) ∷ (askedNumbers (ch .asked) ++ (marksNumber (ch .inactive) ∷ requestsNumbers ch places 0))
+    flagNumber (ch .ever) ∷ ch .clock ∷ phaseNumber (ch .phase)
+    ∷ (askedNumbers (ch .asked) ++ (marksNumber (ch .inactive) ∷ requestsNumbers ch places 0))
 
 -- the image
 unfoldable pub imageBytes : Setup → Channel → List ℕ
@@ -90,4 +96,4 @@ imageBytes setup ch = allBytes (setupNumbers setup ++ channelNumbers ch)
 
 -- the longest that there is of a set-up that keeps the frame and a channel that is sound (law `image-most`; LongestExample in proofs has one that is as long)
 abbrev pub imageMost : ℕ
-imageMost = 409
+imageMost = 410

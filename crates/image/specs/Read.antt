@@ -1,5 +1,5 @@
 -- Document 02, CR 1: what an image says, over a source of numbers. Here only its shape is judged ("18 for a malformed image, before 9"): a number that isn't
--- one, an end too early or too late, a layout or an edition that there isn't, a count, an owner, a tag or marks for which there is no room.
+-- one, an end too early or too late, a layout or an edition that there isn't, a count, a flag, an owner, a tag or marks for which there is no room.
 use Prim.Native.Nat.{ℕ, zero, suc, _+_, _/_, _%_}
 use mathlib.Core.Bool.{Bool, cond}
 use mathlib.Core.List.{List, [], _∷_}
@@ -106,19 +106,23 @@ abbrev pub thenState : Part → Channel → (ℕ → ChannelRead) → ChannelRea
 thenState (Good at) ch f = f at
 thenState (Fault why place) ch f = channelRead ch (Fault why place)
 
--- clock, owner, asked time and marks: a channel that has these and no requests
-unfoldable pub marksAt : Source → ℕ → Phase → ℕ → ChannelRead
-marksAt src clock phase at =
+-- whether it was ever granted, clock, owner, asked time and marks: a channel that has these and no requests
+unfoldable pub marksAt : Source → Bool → ℕ → Phase → ℕ → ChannelRead
+marksAt src ever clock phase at =
     let when = askedAt src at in
     thenState (when .part) freshChannel (λ next.
     withState (numberIn src 0 marksMost next) freshChannel (λ marks end.
-    channelRead (changed freshChannel phase (when .asked) clock (marksOf places marks)) (Good end)))
+    channelRead (changed freshChannel phase (when .asked) ever clock (marksOf places marks)) (Good end)))
 
-unfoldable pub ownerAt : Source → ℕ → ℕ → ChannelRead
-ownerAt src clock at = withState (numberIn src 0 places at) freshChannel (λ owner next. marksAt src clock (phaseOf owner) next)
+unfoldable pub ownerAt : Source → Bool → ℕ → ℕ → ChannelRead
+ownerAt src ever clock at =
+    withState (numberIn src 0 places at) freshChannel (λ owner next. marksAt src ever clock (phaseOf owner) next)
+
+unfoldable pub clockAt : Source → Bool → ℕ → ChannelRead
+clockAt src ever at = withState (src at) freshChannel (λ clock next. ownerAt src ever clock next)
 
 unfoldable pub stateAt : Source → ℕ → ChannelRead
-stateAt src at = withState (src at) freshChannel (λ clock next. ownerAt src clock next)
+stateAt src at = withState (numberIn src 0 1 at) freshChannel (λ flag next. clockAt src (eqb flag 1) next)
 
 -- a request, by the bytes that are left of it and its other numbers
 abbrev pub requestFrom : ℕ → List ℕ → Request

@@ -37,12 +37,12 @@ ghost use Rattle.image.specs.Image.{readSetup, readChannel, malformed, r
 ghost use Rattle.image.specs.Image.{writeImage, writeImageAfter, headRead, readHead};
 
 // The layout's own number, and the edition of the head in an image.
-pub const LAYOUT: u32 = 1;
+pub const LAYOUT: u32 = 2;
 
 pub const EDITION: u32 = 1;
 
 // The longest image there is.
-pub const IMAGE_MOST: usize = 409;
+pub const IMAGE_MOST: usize = 410;
 
 // The most numbers of a head and of the set-up's part, and the bytes that that part and the channel's have at most.
 const HEAD_NUMBERS: usize = 131;
@@ -51,7 +51,7 @@ const SETUP_NUMBERS: usize = 133;
 
 const SETUP_BYTES: usize = 665;
 
-const CHANNEL_BYTES: usize = 425;
+const CHANNEL_BYTES: usize = 430;
 
 // A channel that was read, as far as that came, and the part of the image that it is.
 pub struct ChannelRead {

@@ -1,4 +1,4 @@
-// The channel's part of an image: clock, owner, asked time and marks, and then the requests.
+// The channel's part of an image: whether it was ever granted, clock, owner, asked time and marks, and then the requests.
 use crate::AskedRead;
 use crate::ChannelRead;
 use crate::rows::number_in;
@@ -20,8 +20,8 @@ ghost use Rattle.number.specs.Number.{readNumber};
 ghost use Rattle.numbers.specs.declared.Part.the-variants.{Good, Fault};
 ghost use Rattle.channel.specs.declared.Asked.the-variants.{Never};
 ghost use Rattle.channel.specs.Channel.{freshChannel, noRequest, changed};
-ghost use Rattle.image.specs.Read.{phaseOf, marksOf, askedRead, timeAt, askedAt, channelRead, marksAt, ownerAt, stateAt, requestsAt};
-ghost use Rattle.image.specs.Read.{ended, nothingAfter, channelPartAt};
+ghost use Rattle.image.specs.Read.{phaseOf, marksOf, askedRead, timeAt, askedAt, channelRead, marksAt, ownerAt, clockAt};
+ghost use Rattle.image.specs.Read.{stateAt, requestsAt, ended, nothingAfter, channelPartAt};
 ghost use Rattle.image.specs.inner.Rows.{partOf, requestRead, readRequest};
 
 // A request that was read, or none, and the part of the image that it is.
@@ -110,13 +110,14 @@ pub(crate) fn no_channel(part: Part) -> ChannelRead
 }
 
 // A channel that has the marks and stands so, and no requests.
-fn stands(clock: u32, phase: Phase, asked: Asked, marks: u32, end: usize) -> ChannelRead
-    ensures { λ r. ⌜ r ≡ channelRead (changed freshChannel phase asked clock (marksOf places marks)) (Good end) ⌝ }
+fn stands(ever: bool, clock: u32, phase: Phase, asked: Asked, marks: u32, end: usize) -> ChannelRead
+    ensures { λ r. ⌜ r ≡ channelRead (changed freshChannel phase asked ever clock (marksOf places marks)) (Good end) ⌝ }
 {
     let inactive = marks_of(marks);
     let channel = Channel {
         phase,
         asked,
+        ever,
         clock,
         inactive,
         direction: [0; PLACES],
@@ -130,8 +131,8 @@ fn stands(clock: u32, phase: Phase, asked: Asked, marks: u32, end: usize) -> Cha
 }
 
 // The asked time and the marks of a channel at this clock and in this phase.
-fn read_marks(bytes: &[u8], clock: u32, phase: Phase, at: usize) -> ChannelRead
-    ensures { λ r. ⌜ r ≡ marksAt (readNumber (now (bytes .entry))) clock phase at ⌝ }
+fn read_marks(bytes: &[u8], ever: bool, clock: u32, phase: Phase, at: usize) -> ChannelRead
+    ensures { λ r. ⌜ r ≡ marksAt (readNumber (now (bytes .entry))) ever clock phase at ⌝ }
 {
     let when = read_asked(bytes, at);
     let part = when.part;
@@ -143,30 +144,41 @@ fn read_marks(bytes: &[u8], clock: u32, phase: Phase, at: usize) -> ChannelRead
         NumberRead::Refused(why, place) => no_channel(Part::Fault(why, place)),
         NumberRead::Number(marks, end) => {
             let asked = when.asked;
-            stands(clock, phase, asked, marks, end)
+            stands(ever, clock, phase, asked, marks, end)
         }
     }
 }
 
 // The owner, and what comes after it.
-fn read_owner(bytes: &[u8], clock: u32, at: usize) -> ChannelRead
-    ensures { λ r. ⌜ r ≡ ownerAt (readNumber (now (bytes .entry))) clock at ⌝ }
+fn read_owner(bytes: &[u8], ever: bool, clock: u32, at: usize) -> ChannelRead
+    ensures { λ r. ⌜ r ≡ ownerAt (readNumber (now (bytes .entry))) ever clock at ⌝ }
 {
     let got = number_in(bytes, 0, PLACES_U32, at);
     match got {
         NumberRead::Refused(why, place) => no_channel(Part::Fault(why, place)),
-        NumberRead::Number(owner, next) => read_marks(bytes, clock, phase_of(owner), next),
+        NumberRead::Number(owner, next) => read_marks(bytes, ever, clock, phase_of(owner), next),
     }
 }
 
-// Clock, owner, asked time and marks.
-fn read_state(bytes: &[u8], at: usize) -> ChannelRead
-    ensures { λ r. ⌜ r ≡ stateAt (readNumber (now (bytes .entry))) at ⌝ }
+// The clock, and what comes after it.
+fn read_clock(bytes: &[u8], ever: bool, at: usize) -> ChannelRead
+    ensures { λ r. ⌜ r ≡ clockAt (readNumber (now (bytes .entry))) ever at ⌝ }
 {
     let got = number::read_number(bytes, at);
     match got {
         NumberRead::Refused(why, place) => no_channel(Part::Fault(why, place)),
-        NumberRead::Number(clock, next) => read_owner(bytes, clock, next),
+        NumberRead::Number(clock, next) => read_owner(bytes, ever, clock, next),
+    }
+}
+
+// Whether the channel was ever granted, clock, owner, asked time and marks.
+fn read_state(bytes: &[u8], at: usize) -> ChannelRead
+    ensures { λ r. ⌜ r ≡ stateAt (readNumber (now (bytes .entry))) at ⌝ }
+{
+    let flag = number_in(bytes, 0, 1, at);
+    match flag {
+        NumberRead::Refused(why, place) => no_channel(Part::Fault(why, place)),
+        NumberRead::Number(ever, next) => read_clock(bytes, ever == 1, next),
     }
 }
 

@@ -8,7 +8,6 @@ use channel::Request;
 use number::NumberWritten;
 use refusal::Refusal;
 ghost use mathlib.Core.Path.{_≡_};
-ghost use mathlib.Core.Bool.{cond};
 ghost use Prim.Native.Nat.{_+_, _*_, _≤_, _<_};
 ghost use lib.ListN.{length};
 ghost use lib.Seq.{sets};
@@ -16,7 +15,15 @@ ghost use Rattle.basics.specs.Limits.{places};
 ghost use Rattle.number.specs.Number.{bytesOf, wholeAt, wholeAfter};
 ghost use Rattle.numbers.specs.Numbers.{allBytes};
 ghost use Rattle.image.specs.Image.{headBytes};
-ghost use Rattle.image.specs.Layout.{phaseNumber, askedNumbers, marksNumber, requestNumbers, requestsNumbers, channelNumbers};
+ghost use Rattle.image.specs.Layout.{flagNumber, phaseNumber, askedNumbers, marksNumber, requestNumbers};
+ghost use Rattle.image.specs.Layout.{requestsNumbers, channelNumbers};
+
+// 1 for what is so.
+fn flag_number(so: bool) -> u32
+    ensures { λ r. ⌜ r ≡ flagNumber so ⌝ }
+{
+    if so { 1 } else { 0 }
+}
 
 // The owner's number.
 fn phase_number(phase: Phase) -> u32
@@ -28,12 +35,6 @@ fn phase_number(phase: Phase) -> u32
     }
 }
 
-fn mark_number(marked: bool) -> u32
-    ensures { λ r. ⌜ r ≡ cond marked 1 0 ⌝ }
-{
-    if marked { 1 } else { 0 }
-}
-
 // The number of the marks, from the highest place down.
 fn marks_number(marks: [bool; PLACES]) -> u32
     ensures { λ r. ⌜ r ≡ marksNumber marks ⌝ }
@@ -42,7 +43,7 @@ fn marks_number(marks: [bool; PLACES]) -> u32
     let mut level: usize = PLACES;
     while 0 < level {
         level -= 1;
-        sum = mark_number(marks[level]) + 2 * sum;
+        sum = flag_number(marks[level]) + 2 * sum;
     }
     sum
 }
@@ -117,20 +118,21 @@ fn put_requests(row: &mut [u8], at: usize, channel: Channel) -> usize
     place
 }
 
-// The same of a whole channel: clock, owner, asked time and marks are five numbers at most.
+// The same of a whole channel: whether it was ever granted, clock, owner, asked time and marks are six numbers at most.
 pub(crate) fn put_channel(row: &mut [u8], at: usize, channel: Channel) -> usize
-    requires { ⌜ at + (25 + 25 * places) ≤ length (now row) ⌝ }
+    requires { ⌜ at + (30 + 25 * places) ≤ length (now row) ⌝ }
     ensures { λ r. ⌜ r ≡ at + length (allBytes (channelNumbers channel)) ⌝ }
     ensures { λ _. ⌜ now (row .exit) ≡ sets (now (row .entry)) at (allBytes (channelNumbers channel)) ⌝ }
 {
     let phase = channel.phase;
     let asked = channel.asked;
     let marks = channel.inactive;
-    let second = put_one(row, at, channel.clock);
-    let third = put_one(row, second, phase_number(phase));
-    let fourth = put_asked(row, third, asked);
-    let fifth = put_one(row, fourth, marks_number(marks));
-    put_requests(row, fifth, channel)
+    let second = put_one(row, at, flag_number(channel.ever));
+    let third = put_one(row, second, channel.clock);
+    let fourth = put_one(row, third, phase_number(phase));
+    let fifth = put_asked(row, fourth, asked);
+    let sixth = put_one(row, fifth, marks_number(marks));
+    put_requests(row, sixth, channel)
 }
 
 // Lays bytes from a place on, where there is room for them.

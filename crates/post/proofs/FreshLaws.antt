@@ -23,6 +23,7 @@ fresh-sound setup =
     record {
       settled =
           record {
+            never = λ e. record { phase = refl; clock = refl; unmarked = λ l k. getD-replicate places l false false k };
             owner = λ o e. let z : _≡_ {A = ℕ} 0 1 = cc in absurd (omega arith);
             request = λ l k e. absurd (false≢true (sym (fresh-none l k) ∙ e));
             blank = λ l k e. fresh-blank l k;

@@ -114,6 +114,7 @@ module _ (setup : Setup) (ch : Channel) (p : Order) (shaped : Shaped ch) (ok : A
   unfolding withRequest
   post-settled =
       record {
+        never = λ e. let n = s .never e in record { phase = n .phase; clock = n .clock; unmarked = n .unmarked };
         owner = λ o e. let g = s .owner o e in
             record {
               small = g .small;

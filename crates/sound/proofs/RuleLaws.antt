@@ -31,6 +31,8 @@ module _ (setup : Setup) (ch : Channel) where
   unfolding clearMarks
   off-settled s f =
       record {
+        never = λ e. let n = s .never e in
+            record { phase = n .phase; clock = n .clock; unmarked = λ l k. rw (f, getD-replicate places l false false k) };
         owner = λ o e. let g = s .owner o e in
             record {
               small = g .small;
@@ -95,6 +97,7 @@ module _ (setup : Setup) (framed : isFramed setup ≡ true) (ch : Channel) where
       record {
         settled =
             record {
+              never = λ e. let n = s .never e in record { phase = n .phase; clock = n .clock; unmarked = n .unmarked };
               owner = λ o e. let g = s .owner o e in
                   record { small = g .small; present = g .present; asking = g .asking; active = g .active };
               request = s .request;
@@ -126,7 +129,7 @@ same-asked setup ch s (Granted o) Never e f = rw (s .quiet o e f)
 -- nothing is removed where no mark is left
 unmarked : (ch : Channel) → line ch ≡ false → ch .inactive ≡ replicate places false → clearMarks ch ≡ ch
 unfolding clearMarks
-unmarked ch f e = rw f (ap (changed ch (ch .phase) (ch .asked) (ch .clock)) (sym e))
+unmarked ch f e = rw f (ap (changed ch (ch .phase) (ch .asked) (ch .ever) (ch .clock)) (sym e))
 
 same-cleared : (setup : Setup) (ch : Channel) → Shaped ch → Sound setup ch → clearMarks ch ≡ ch
 same-cleared setup ch k s =
@@ -140,7 +143,7 @@ same-cleared setup ch k s =
 same-set : (setup : Setup) (ch : Channel) → Sound setup ch → setAsked ch ≡ ch
 unfolding setAsked
 same-set setup ch s =
-    ap (λ (a : Asked). changed ch (ch .phase) a (ch .clock) (ch .inactive)) (same-asked setup ch s (ch .phase) (ch .asked) refl refl)
+    ap (λ (a : Asked). changed ch (ch .phase) a (ch .ever) (ch .clock) (ch .inactive)) (same-asked setup ch s (ch .phase) (ch .asked) refl refl)
 
 -- the line rule changes nothing on a sound channel
 pub rule-same : (setup : Setup) (ch : Channel) → Shaped ch → Sound setup ch → lineRule ch ≡ ch

@@ -22,10 +22,12 @@ use Rattle.channel.specs.declared.Phase.the-variants.{Arbitrating, Granted}
 use Rattle.channel.specs.declared.Asked.{Asked}
 use Rattle.channel.specs.declared.Asked.the-variants.{Never, At}
 use Rattle.channel.specs.declared.Channel.{Channel}
-use Rattle.channel.specs.Channel.{hasRequest, requestOf}
+use Rattle.channel.specs.Channel.{isArbitrating, hasRequest, requestOf}
 use Rattle.channel.specs.Line.{isInactive, line}
 use Rattle.sound.specs.Request.{requestVerdict}
 use Rattle.sound.specs.Sound.{
+  areUnmarked,
+  isNeverGrantedSound,
   isGrantSound,
   ownerSound,
   isOwnerSound,
@@ -41,6 +43,12 @@ use Rattle.sound.specs.Sound.{
   isSound,
 }
 
+-- a channel before its first grant
+pub record NeverGranted (ch : Channel) : Type 0 where
+  pub phase : ch .phase ≡ Arbitrating
+  pub clock : ch .clock ≡ 0
+  pub unmarked : (l : ℕ) → l < places → isInactive (ch .inactive) l ≡ false
+
 -- a level that the channel may be granted to
 pub record Grant (levels : LevelRows) (ch : Channel) (owner : ℕ) : Type 0 where
   pub small : owner ≤ systemMaster
@@ -55,6 +63,7 @@ pub record InTime (setup : Setup) (ch : Channel) (owner t : ℕ) : Type 0 where
   pub kept : isInTime setup owner (requestOf ch owner) (ch .clock) t ≡ true
 
 pub record Settled (setup : Setup) (ch : Channel) : Type 0 where
+  pub never : ch .ever ≡ false → NeverGranted ch
   pub owner : (o : ℕ) → ch .phase ≡ Granted o → Grant (setup .levels) ch o
   pub request : (l : ℕ) → l < places → hasRequest (ch .left) l ≡ true
       → (isPresent (setup .levels) l ≡ true) × (requestVerdict setup l (requestOf ch l) ≡ Accepted)
@@ -74,7 +83,37 @@ pub accepted-is : (v : Verdict) → isAccepted v ≡ true → v ≡ Accepted
 accepted-is Accepted e = refl
 accepted-is (Refused r) e = absurd (false≢true e)
 
+arbitrating-is : (p : Phase) → isArbitrating p ≡ true → p ≡ Arbitrating
+arbitrating-is Arbitrating e = refl
+arbitrating-is (Granted o) e = absurd (false≢true e)
+
 module _ (setup : Setup) (ch : Channel) where
+  -- before the first grant
+  never-is : isNeverGrantedSound (ch .ever) (ch .phase) (ch .clock) (ch .inactive) ≡ true → ch .ever ≡ false → NeverGranted ch
+  unfolding isNeverGrantedSound areUnmarked
+  never-is h e =
+      let r = rw e at h in
+      let s = and-right (isArbitrating (ch .phase)) _ r in
+      record {
+        phase = arbitrating-is (ch .phase) (and-left _ _ r);
+        clock = eqb-true (ch .clock) 0 (and-right (areUnmarked (ch .inactive)) _ s);
+        unmarked = λ l k. not-true _ (all-at (λ (m : ℕ). not (isInactive (ch .inactive) m)) places (and-left _ _ s) l k);
+      }
+
+  never-by : (ch .ever ≡ false → NeverGranted ch) → isNeverGrantedSound (ch .ever) (ch .phase) (ch .clock) (ch .inactive) ≡ true
+  unfolding isNeverGrantedSound areUnmarked
+  never-by h =
+      by-test (ch .ever)
+      (λ t. rw t)
+      (λ f.
+      let n = h f in
+      rw (
+        f,
+        n .phase,
+        eq-eqb (ch .clock) 0 (n .clock),
+        all-intro (λ (l : ℕ). not (isInactive (ch .inactive) l)) places (λ l k. rw (n .unmarked l k)),
+      ))
+
   -- the owner
   grant-is : (o : ℕ) → isGrantSound (setup .levels) ch o ≡ true → Grant (setup .levels) ch o
   unfolding isGrantSound
@@ -166,14 +205,15 @@ module _ (setup : Setup) (ch : Channel) where
   unfolding isAskedSound
   asked-is p a h e f = sym (ap₂ (askedSound setup ch (line ch)) e f) ∙ h
 
-  never-is : (a : Asked) → askedSound setup ch (line ch) Arbitrating a ≡ true → a ≡ Never
-  never-is Never h = refl
-  never-is (At t) h = absurd (false≢true h)
+  unasked-is : (a : Asked) → askedSound setup ch (line ch) Arbitrating a ≡ true → a ≡ Never
+  unasked-is Never h = refl
+  unasked-is (At t) h = absurd (false≢true h)
 
   pub sound-is : isSound setup ch ≡ true → Sound setup ch
   unfolding isSound areRequestsSound
   sound-is h =
-      let owner = need (isOwnerSound (setup .levels) ch) (isSound setup ch) (λ f. simp f) h in
+      let never = need (isNeverGrantedSound (ch .ever) (ch .phase) (ch .clock) (ch .inactive)) (isSound setup ch) (λ f. simp f) h in
+      let owner = need (isOwnerSound (setup .levels) ch) (isSound setup ch) (λ f. simp (f, and-false)) h in
       let requests = need (areRequestsSound setup ch) (isSound setup ch) (λ f. simp (f, and-false)) h in
       let marks = need (areMarksSound (setup .levels) (ch .inactive) (line ch)) (isSound setup ch) (λ f. simp (f, and-false)) h in
       let clock = need (leb (ch .clock) clockLimit) (isSound setup ch) (λ f. simp (f, and-false)) h in
@@ -181,12 +221,13 @@ module _ (setup : Setup) (ch : Channel) where
       record {
         settled =
             record {
+              never = never-is never;
               owner = owner-is owner;
               request = λ l k. request-is l (all-at (isRequestSound setup ch) places requests l k);
               blank = λ l k. blank-is l (all-at (isRequestSound setup ch) places requests l k);
               fair = λ l k e. let m = mark-at marks l k e in (m .0, m .1);
               clock = leb-true (ch .clock) clockLimit clock;
-              unasked = λ e. never-is (ch .asked) (asked-is Arbitrating (ch .asked) asked e refl);
+              unasked = λ e. unasked-is (ch .asked) (asked-is Arbitrating (ch .asked) asked e refl);
               asked = λ o t e f. at-is o t (asked-is (Granted o) (At t) asked e f);
             };
         marked = λ l k e. mark-at marks l k e .2;
@@ -197,6 +238,7 @@ module _ (setup : Setup) (ch : Channel) where
   unfolding isSound isOwnerSound areRequestsSound areMarksSound isAskedSound
   sound-by s =
       rw (
+        never-by (s .settled .never),
         owner-by (s .settled .owner) (ch .phase) refl,
         all-intro (isRequestSound setup ch) places (request-by (s .settled)),
         all-intro (λ (l : ℕ). isMarkSound (setup .levels) (isInactive (ch .inactive) l) (line ch) l) places (mark-by s),

@@ -49,6 +49,7 @@ use Rattle.sound.specs.Sound.{
   isAskedAt,
   askedSound,
   isAskedSound,
+  isNeverGrantedSound,
   isSound,
 }
 use Rattle.sound.specs.inner.Tables.{
@@ -250,19 +251,21 @@ module _ (setup : Setup) (ch : Channel) (members : Members) (tells : AreMembers 
   pub owner-unsound : (owner : Bool) → owner ≡ ownerFits (members .present) (ch .left) (ch .inactive) (ch .phase) → not owner ≡ true
       → false ≡ isSound setup ch
   unfolding isSound
-  owner-unsound owner o e = rw (sym owner-fits ∙ sym o ∙ not-true owner e)
+  owner-unsound owner o e = rw (sym owner-fits ∙ sym o ∙ not-true owner e, and-false)
 
-  pub clauses-sound : (owner requests active marks clock time : Bool) (place : ℕ) (rest : Request)
+  pub clauses-sound : (owner never requests active marks clock time : Bool) (place : ℕ) (rest : Request)
       → owner ≡ ownerFits (members .present) (ch .left) (ch .inactive) (ch .phase) → not owner ≡ false
+      → never ≡ isNeverGrantedSound (ch .ever) (ch .phase) (ch .clock) (ch .inactive)
       → requests ≡ requestsFit setup (members .present) (requestOf ch)
       → active ≡ line ch → marks ≡ areMarked (members .fair) (ch .inactive) active
       → clock ≡ isClockSound ch
       → place ≡ ownerPlace (ch .phase) → rest ≡ requestOf ch place → time ≡ askedFits setup rest (ch .clock) active (ch .phase) (ch .asked)
-      → (requests && (marks && (clock && time))) ≡ isSound setup ch
+      → (never && (requests && (marks && (clock && time)))) ≡ isSound setup ch
   unfolding isSound
-  clauses-sound owner requests active marks clock time place rest o e r l m k p q t =
+  clauses-sound owner never requests active marks clock time place rest o e b r l m k p q t =
       rw (
         sym owner-fits ∙ sym o ∙ not-false owner e,
+        b,
         r ∙ requests-fit,
         m ∙ marks-fit active,
         k,

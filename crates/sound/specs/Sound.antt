@@ -1,4 +1,5 @@
--- Document 01, "Unsound": a definition for each clause, in its order. Each is true where the clause does not hold; a channel is sound where all are.
+-- Document 01, "Unsound": a definition for each clause, in its order, after the one that document 02 added. Each is true where the clause does not hold; a
+-- channel is sound where all are.
 use Prim.Native.Nat.{ℕ}
 use mathlib.Core.Bool.{Bool, true, false, cond, not, _&&_, _||_}
 use mathlib.Core.List.{List}
@@ -19,9 +20,16 @@ use Rattle.channel.specs.declared.Asked.{Asked}
 use Rattle.channel.specs.declared.Asked.the-variants.{Never, At}
 use Rattle.channel.specs.declared.Channel.{Channel}
 use Rattle.channel.specs.declared.Request.{Request}
-use Rattle.channel.specs.Channel.{hasRequest, requestOf}
+use Rattle.channel.specs.Channel.{isArbitrating, hasRequest, requestOf}
 use Rattle.channel.specs.Line.{isInactive, line}
 use Rattle.sound.specs.Request.{requestVerdict, transferOf}
+
+-- document 02, CR 2: "a channel never granted is unsound if it is granted now, has a mark or has a clock above 0"
+unfoldable pub areUnmarked : List Bool → Bool
+areUnmarked inactive = allBelow (λ (l : ℕ). not (isInactive inactive l)) places
+
+unfoldable pub isNeverGrantedSound : Bool → Phase → ℕ → List Bool → Bool
+isNeverGrantedSound ever phase clock inactive = ever || (isArbitrating phase && (areUnmarked inactive && eqb clock 0))
 
 -- "granted to an absent level, or to one other than 15 without a request, or to an inactive one"
 unfoldable pub isGrantSound : LevelRows → Channel → ℕ → Bool
@@ -81,14 +89,15 @@ askedSound setup ch active (Granted owner) (At t) = isAskedAt setup ch active ow
 unfoldable pub isAskedSound : Setup → Channel → Bool → Bool
 isAskedSound setup ch active = askedSound setup ch active (ch .phase) (ch .asked)
 
--- the channel is sound: owner, requests, marks, clock and asked time
+-- the channel is sound: before its first grant, and always owner, requests, marks, clock and asked time
 unfoldable pub isSound : Setup → Channel → Bool
 isSound setup ch =
-    isOwnerSound (setup .levels) ch
+    isNeverGrantedSound (ch .ever) (ch .phase) (ch .clock) (ch .inactive)
+    && (isOwnerSound (setup .levels) ch
     && (areRequestsSound setup ch
     && (areMarksSound (setup .levels) (ch .inactive) (line ch)
     && (isClockSound ch
-    && isAskedSound setup ch (line ch))))
+    && isAskedSound setup ch (line ch)))))
 
 -- "the slave store, as long as all rows together": its length, of a set-up that keeps the frame and a channel that is sound, which meet no 9
 unfoldable pub soundStore : Setup → Channel → FramedStore

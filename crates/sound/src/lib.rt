@@ -20,7 +20,7 @@ ghost use Prim.Native.Nat.{_<_, _+_};
 ghost use lib.Dec.{leb, ltb};
 ghost use Rattle.basics.specs.Limits.{places, clockLimit};
 ghost use Rattle.sound.specs.Request.{isInRange, requestVerdict, transferOf};
-ghost use Rattle.sound.specs.Sound.{isBlank, isInTime, isSound, soundStore};
+ghost use Rattle.sound.specs.Sound.{areUnmarked, isNeverGrantedSound, isBlank, isInTime, isSound, soundStore};
 ghost use Rattle.sound.specs.inner.Tables.{membersAt, AreMembers, AreSeats, channelAt, grantFits, ownerFits, requestAt};
 ghost use Rattle.sound.specs.inner.Tables.{areBlank, restFits, areOpenSound, requestsFit, areMarked, askedFits};
 
@@ -157,6 +157,33 @@ fn seats_of(levels: LevelRows) -> Seats
         fits: true,
         present: present,
         fair: fair,
+    }
+}
+
+// No level is marked inactive.
+fn are_unmarked(inactive: &[bool; PLACES]) -> bool
+    ensures { λ r. ⌜ r ≡ areUnmarked (now (inactive .entry)) ⌝ }
+{
+    let mut level: usize = 0;
+    while level < PLACES {
+        if inactive[level] {
+            return false;
+        }
+        level += 1;
+    }
+    true
+}
+
+// A channel never granted isn't granted now, has no mark, and its clock is 0.
+fn is_never_granted_sound(ever: bool, phase: Phase, clock: u32, inactive: &[bool; PLACES]) -> bool
+    ensures { λ r. ⌜ r ≡ isNeverGrantedSound ever phase clock (now (inactive .entry)) ⌝ }
+{
+    if ever {
+        return true;
+    }
+    match phase {
+        Phase::Arbitrating => are_unmarked(inactive) & (clock == 0),
+        Phase::Granted(_) => false,
     }
 }
 
@@ -379,6 +406,7 @@ fn are_clauses_sound<'a>(
     fair: &'a [bool; PLACES],
     phase: Phase,
     asked: Asked,
+    ever: bool,
     clock: u32,
     inactive: &'a [bool; PLACES],
     direction: &'a [u32; PLACES],
@@ -388,19 +416,20 @@ fn are_clauses_sound<'a>(
     offset: &'a [u32; PLACES],
 ) -> bool
     requires { ⌜ AreMembers (setup .levels) (membersAt (now present) (now fair)) ⌝ }
-    ensures { λ r. ⌜ r ≡ isSound setup (channelAt phase asked clock (now (inactive .entry)) (now (direction .entry)) (now (space .entry))
+    ensures { λ r. ⌜ r ≡ isSound setup (channelAt phase asked ever clock (now (inactive .entry)) (now (direction .entry)) (now (space .entry))
         (now (address .entry)) (now (left .entry)) (now (offset .entry))) ⌝ }
 {
     if !is_owner_sound(present, left, inactive, phase) {
         return false;
     }
+    let never = is_never_granted_sound(ever, phase, clock, inactive);
     let requests = are_requests_sound(setup, present, direction, space, address, left, offset);
     let active = channel::line_active(left, inactive, phase);
     let marks = are_marks_sound(fair, inactive, active);
     let owner = channel::owner_place(phase);
     let rest = request_at(direction, space, address, left, offset, owner);
     let time = is_asked_sound(setup, rest, clock, active, phase, asked);
-    requests & (marks & (is_clock_sound(clock) & time))
+    never & (requests & (marks & (is_clock_sound(clock) & time)))
 }
 
 // The channel is sound.
@@ -417,6 +446,7 @@ pub fn is_sound(setup: Setup, channel: Channel) -> bool
         &members.fair,
         phase,
         asked,
+        channel.ever,
         channel.clock,
         &channel.inactive,
         &channel.direction,
@@ -445,6 +475,7 @@ pub fn sound_store(setup: Setup, channel: Channel) -> FramedStore
         &seats.fair,
         phase,
         asked,
+        channel.ever,
         channel.clock,
         &channel.inactive,
         &channel.direction,

@@ -42,7 +42,7 @@ moved-twice : (ch : Channel) (o k c : ℕ) (q p : Request)
     → withRequest (clocked (withRequest (clocked ch k) o q) c) o p ≡ withRequest (clocked ch c) o p
 unfolding withRequest clocked
 moved-twice ch o k c q p =
-    same-channel _ _ refl refl refl refl (set-set (ch .direction) o (q .direction) (p .direction))
+    same-channel _ _ refl refl refl refl refl (set-set (ch .direction) o (q .direction) (p .direction))
     (set-set (ch .space) o (q .space) (p .space))
     (set-set (ch .address) o (q .address) (p .address)) (set-set (ch .left) o (q .left) (p .left))
     (set-set (ch .offset) o (q .offset) (p .offset))
@@ -62,7 +62,7 @@ module _ (route : Route) (w : Running) (o : ℕ) (phase : w .channel .phase ≡ 
       (λ (i : ℕ).
       withRequest
       (changed (w .channel) (cond (isKept ends) (w .channel .phase) Arbitrating) (cond (isKept ends) (w .channel .asked) Never)
-      (w .channel .clock + route .time) (set (w .channel .inactive) o (isMarked ends)))
+      (w .channel .ever) (w .channel .clock + route .time) (set (w .channel .inactive) o (isMarked ends)))
       i (cycleOf route q .rest))
       (ap ownerPlace phase)
       ∙ put-ended (w .channel) o active ends (w .channel .clock + route .time) (cycleOf route q .rest)

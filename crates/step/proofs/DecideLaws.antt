@@ -45,10 +45,10 @@ module _ (route : Route) (s : Standing) (q : Request) (left : List ℕ) (inactiv
   by-phase p e d marks a b = (a ∙ ap (decidedBy route s q left inactive) (sym e), b ∙ ap (marksBy route s q left inactive) (sym e))
 
   module _ (e : s .phase ≡ Arbitrating) where
-    pub decides-full : (d : Decided) → ltb clockLimit (s .clock + arbitrationTime) ≡ true → d ≡ stayOf (fullActed s) q → Right d inactive
+    pub decides-full : (d : Decided) → ltb clockLimit (s .clock + arbitrationTime (s .ever)) ≡ true → d ≡ stayOf (fullActed s) q → Right d inactive
     decides-full d t a = by-phase Arbitrating e d inactive (a ∙ rw t) (rw t)
 
-    pub decides-grant : (d : Decided) (marks : List Bool) (base : ℕ) (c : Chosen) → ltb clockLimit (s .clock + arbitrationTime) ≡ false
+    pub decides-grant : (d : Decided) (marks : List Bool) (base : ℕ) (c : Chosen) → ltb clockLimit (s .clock + arbitrationTime (s .ever)) ≡ false
         → IsChosen left inactive marks base c → d ≡ stayOf (grantedBy s (c .winner) (c .active)) q → Right d marks
     decides-grant d marks base c f x a =
         by-phase Arbitrating e d marks

@@ -53,7 +53,7 @@ use Rattle.act.specs.Cycle.{
   movedOn,
   cycleTurn,
 }
-use Rattle.act.specs.Turn.{arbitrationTime, granted, grantTurn, leaveTurn}
+use Rattle.act.specs.Turn.{grantClock, granted, grantTurn, leaveTurn}
 use Rattle.step.proofs.CycleFacts.{Leaves, Takes, rest-slave, rest-start, rest-route, rest-fits, cycle-leaves, cycle-takes}
 use Rattle.step.specs.declared.Plan.{Plan}
 use Rattle.step.specs.declared.Plan.the-variants as plan
@@ -89,12 +89,13 @@ module _ (setup : Setup) (framed : isFramed setup ≡ true) (ch : Channel) (s : 
       })
       (winner-is (ch .left) (ch .inactive))
 
-  grant-settled : ch .phase ≡ Arbitrating → ch .clock + arbitrationTime ≤ clockLimit
+  grant-settled : ch .phase ≡ Arbitrating → grantClock ch ≤ clockLimit
       → Settled setup (granted ch (winner (ch .left) (ch .inactive)))
   unfolding granted
   grant-settled e k =
       let g = winner-grant e in
       record {
+        never = λ f. absurd (false≢true (sym f));
         owner = λ o f.
             let w : winner (ch .left) (ch .inactive) ≡ o = cc in
             rw (← w) (record { small = g .small; present = g .present; asking = g .asking; active = g .active });
@@ -111,6 +112,7 @@ module _ (setup : Setup) (framed : isFramed setup ≡ true) (ch : Channel) (s : 
   unfolding freed
   leave-settled =
       record {
+        never = λ f. let n = s .settled .never f in record { phase = refl; clock = n .clock; unmarked = n .unmarked };
         owner = λ o f. let z : _≡_ {A = ℕ} 0 1 = cc in absurd (omega arith);
         request = s .settled .request;
         blank = s .settled .blank;
@@ -145,7 +147,7 @@ endedAt setup ch o = endedBy (endingAt (routeAt setup ch o) ch (nextCycle setup 
 
 pub clocked-shaped : (ch : Channel) (k : ℕ) → Shaped ch → Shaped (clocked ch k)
 unfolding clocked
-clocked-shaped ch k s = changed-shaped ch (ch .phase) (ch .asked) k (ch .inactive) (s .inactive) s
+clocked-shaped ch k s = changed-shaped ch (ch .phase) (ch .asked) (ch .ever) k (ch .inactive) (s .inactive) s
 
 no-blank : isBlank noRequest ≡ true
 unfolding isBlank
@@ -180,6 +182,10 @@ module _ (setup : Setup) (framed : isFramed setup ≡ true) (ch : Channel) (shap
 
   pub same-route : 0 < restAt setup ch o .left → routeOf setup o (restAt setup ch o) ≡ routeAt setup ch o
   same-route h = rest-route setup framed (requestOf ch o) fits (nextCycle setup ch o) leaves o h
+
+  -- it has been granted before
+  granted-before : {A : Type 0} → ch .ever ≡ false → A
+  granted-before e = let n = s .settled .never e .phase in let z : _≡_ {A = ℕ} 0 1 = cc in absurd (omega arith)
 
   -- the requests afterwards
   pub here : (m : ℕ) → m ≡ o → requestOf (movedAt setup ch o) m ≡ restAt setup ch o
@@ -284,6 +290,7 @@ module _ (setup : Setup) (framed : isFramed setup ≡ true) (ch : Channel) (shap
   kept-settled e =
       let g = s .settled .owner o phase in
       record {
+        never = granted-before;
         owner = λ p f.
             let same : o ≡ p = cc in
             rw (← same)
@@ -316,6 +323,7 @@ module _ (setup : Setup) (framed : isFramed setup ≡ true) (ch : Channel) (shap
   unfolding freed movedOn clocked withRequest
   freed-settled marks h =
       record {
+        never = granted-before;
         owner = λ p f. let z : _≡_ {A = ℕ} 0 1 = cc in absurd (omega arith);
         request = moved-request;
         blank = moved-blank;
@@ -376,11 +384,11 @@ module _ (setup : Setup) (framed : isFramed setup ≡ true) (ch : Channel) (shap
 -- and keeps the arrays' shape
 pub freed-shaped : (ch : Channel) (marks : List Bool) → length marks ≡ places → Shaped ch → Shaped (freed ch marks)
 unfolding freed
-freed-shaped ch marks n k = changed-shaped ch Arbitrating Never (ch .clock) marks n k
+freed-shaped ch marks n k = changed-shaped ch Arbitrating Never (ch .ever) (ch .clock) marks n k
 
 granted-shaped : (ch : Channel) (w : ℕ) → Shaped ch → Shaped (granted ch w)
 unfolding granted
-granted-shaped ch w k = changed-shaped ch (Granted w) Never (ch .clock + arbitrationTime) (ch .inactive) (k .inactive) k
+granted-shaped ch w k = changed-shaped ch (Granted w) Never true (grantClock ch) (ch .inactive) (k .inactive) k
 
 pub ended-shaped : (ending : Ending) (ch : Channel) (o : ℕ) → Shaped ch → Shaped (endedBy ending ch o)
 ended-shaped Kept ch o k = k

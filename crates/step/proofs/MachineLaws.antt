@@ -25,7 +25,7 @@ use Rattle.act.specs.declared.Route.{Route}
 use Rattle.act.specs.declared.Ending.{Ending}
 use Rattle.act.specs.declared.Ending.the-variants.{Kept, Released, Marked}
 use Rattle.act.specs.Cycle.{routeOf, cycleOf, isKept, isMarked, endingAt, clocked, freed, endedBy, movedOn, cycleEntry, cycleTurn}
-use Rattle.act.specs.Turn.{arbitrationTime, granted, grantTurn, leaveTurn}
+use Rattle.act.specs.Turn.{grantClock, granted, grantTurn, leaveTurn}
 use Rattle.tally.specs.declared.Tally.{Tally}
 use Rattle.step.specs.declared.Stepped.{Stepped}
 use Rattle.step.specs.declared.Plan.{Plan}
@@ -63,7 +63,7 @@ use Rattle.step.proofs.QuietLaws.{cycle-quiet, leave-quiet}
 pub put-same : (ch : Channel) (l : ℕ) → withRequest ch l (requestOf ch l) ≡ ch
 unfolding withRequest
 put-same ch l =
-    same-channel (withRequest ch l (requestOf ch l)) ch refl refl refl refl (set-getD (ch .direction) l 0) (set-getD (ch .space) l 0)
+    same-channel (withRequest ch l (requestOf ch l)) ch refl refl refl refl refl (set-getD (ch .direction) l 0) (set-getD (ch .space) l 0)
     (set-getD (ch .address) l 0) (set-getD (ch .left) l 0) (set-getD (ch .offset) l 0)
 
 -- a cycle put back into the arrays: an owner has no mark, so that to write none leaves the marks
@@ -73,7 +73,7 @@ module _ (ch : Channel) (o : ℕ) (active : isInactive (ch .inactive) o ≡ fals
 
   pub put-ended : (ending : Ending) (clock : ℕ) (slot : Request)
       → withRequest
-      (changed ch (cond (isKept ending) (ch .phase) Arbitrating) (cond (isKept ending) (ch .asked) Never) clock
+      (changed ch (cond (isKept ending) (ch .phase) Arbitrating) (cond (isKept ending) (ch .asked) Never) (ch .ever) clock
       (set (ch .inactive) o (isMarked ending)))
       o slot
       ≡ endedBy ending (withRequest (clocked ch clock) o slot) o
@@ -96,7 +96,7 @@ module _ (setup : Setup) (ch : Channel) (t : Tally) (s m : ℕ) (r : Ready setup
         channel =
             withRequest
             (changed ch (decidedAt route p .acted .standing .phase) (decidedAt route p .acted .standing .asked)
-            (decidedAt route p .acted .standing .clock) (marksBy route (standingOf ch t) (requestOf ch (ownerPlace p)) (ch .left)
+            (decidedAt route p .acted .standing .ever) (decidedAt route p .acted .standing .clock) (marksBy route (standingOf ch t) (requestOf ch (ownerPlace p)) (ch .left)
             (ch .inactive) p))
             (ownerPlace p)
             (decidedAt route p .slot);
@@ -115,13 +115,13 @@ module _ (setup : Setup) (ch : Channel) (t : Tally) (s m : ℕ) (r : Ready setup
   abbrev afterGrant : Channel
   afterGrant =
       changed ch (Granted wins)
-      (cond (lineActive (ch .left) (grantMarks (ch .left) (ch .inactive)) (Granted wins)) (At (ch .clock + arbitrationTime)) Never)
-      (ch .clock + arbitrationTime) (grantMarks (ch .left) (ch .inactive))
+      (cond (lineActive (ch .left) (grantMarks (ch .left) (ch .inactive)) (Granted wins)) (At (grantClock ch)) Never) true (grantClock ch)
+      (grantMarks (ch .left) (ch .inactive))
 
   arbitrating : Comes route Arbitrating (phasePlan setup ch Arbitrating)
   unfolding fullActed grantedBy marksLeft grantTurn granted clearMarks setAsked
   arbitrating =
-      by-test (ltb clockLimit (ch .clock + arbitrationTime))
+      by-test (ltb clockLimit (grantClock ch))
       (λ full. (rw (full, put-same ch 0), rw full))
       (λ room. (rw (room, put-same afterGrant 0), rw room))
 
@@ -131,7 +131,7 @@ module _ (setup : Setup) (ch : Channel) (t : Tally) (s m : ℕ) (r : Ready setup
         channel =
             withRequest
             (changed ch (restActed asked (standingOf ch t) o .standing .phase) (restActed asked (standingOf ch t) o .standing .asked)
-            (restActed asked (standingOf ch t) o .standing .clock) (ch .inactive)) o (requestOf ch o);
+            (restActed asked (standingOf ch t) o .standing .ever) (restActed asked (standingOf ch t) o .standing .clock) (ch .inactive)) o (requestOf ch o);
         tally = restActed asked (standingOf ch t) o .standing .tally;
         answer = restActed asked (standingOf ch t) o .answer;
       }

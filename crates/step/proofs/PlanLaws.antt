@@ -30,7 +30,7 @@ use Rattle.sound.proofs.SoundFacts.{sound-is}
 use Rattle.sound.proofs.RequestFacts.{fits-is, slave-facts-of}
 use Rattle.act.specs.declared.Route.{Route}
 use Rattle.act.specs.Cycle.{routeOf, cycleEntry, cycleTurn}
-use Rattle.act.specs.Turn.{arbitrationTime, grantTurn, leaveTurn}
+use Rattle.act.specs.Turn.{arbitrationTime, grantClock, grantTurn, leaveTurn}
 use Rattle.step.specs.declared.Plan.{Plan}
 use Rattle.step.specs.declared.Plan.the-variants.{Idle, Refused, Grant, Leave, Cycle}
 use Rattle.step.specs.Plan.{nextOf, withinClock, ownerPlan, phasePlan, actPlan, readyVerdict, planBy, planOf}
@@ -43,7 +43,7 @@ use Rattle.step.specs.Step.{Ready, Roomy, Room, advancedBy, carryOf, mov
 abbrev Says : Setup → Channel → Phase → Plan → Type 0
 Says setup ch p Idle = (o : ℕ) × (p ≡ Granted o) × (eqb (getD (ch .left) o 0) 0 ≡ true) × (line ch ≡ false)
 Says setup ch p (Refused why) = why ≡ ClockFull
-Says setup ch p (Grant w) = (p ≡ Arbitrating) × (w ≡ winner (ch .left) (ch .inactive)) × (ch .clock + arbitrationTime ≤ clockLimit)
+Says setup ch p (Grant w) = (p ≡ Arbitrating) × (w ≡ winner (ch .left) (ch .inactive)) × (grantClock ch ≤ clockLimit)
 Says setup ch p (Leave o) = (p ≡ Granted o) × (eqb (getD (ch .left) o 0) 0 ≡ true) × (line ch ≡ true)
 Says setup ch p (Cycle o) =
     (p ≡ Granted o)
@@ -67,7 +67,7 @@ owner-says setup ch o =
 
 phase-says : (setup : Setup) (ch : Channel) (p : Phase) → Says setup ch p (phasePlan setup ch p)
 phase-says setup ch Arbitrating =
-    within-says setup ch Arbitrating arbitrationTime (Grant (winner (ch .left) (ch .inactive))) (λ h. (refl, refl, h))
+    within-says setup ch Arbitrating (arbitrationTime (ch .ever)) (Grant (winner (ch .left) (ch .inactive))) (λ h. (refl, refl, h))
 phase-says setup ch (Granted o) = owner-says setup ch o
 
 pub says : (setup : Setup) (ch : Channel) (plan : Plan) → actPlan setup ch ≡ plan → Says setup ch (ch .phase) plan

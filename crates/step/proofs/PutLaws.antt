@@ -95,7 +95,7 @@ module _ (route : Route) (w : Running) (a : Acted) (marks : List Bool)
     (d : stayOf a (requestOf (w .channel) (ownerPlace (w .channel .phase))) ≡ decidedIn route (w .channel) (w .tally))
     (m : marks ≡ marksIn route (w .channel) (w .tally)) where
   abbrev left-as : Channel
-  left-as = changed (w .channel) (a .standing .phase) (a .standing .asked) (a .standing .clock) marks
+  left-as = changed (w .channel) (a .standing .phase) (a .standing .asked) (a .standing .ever) (a .standing .clock) marks
 
   pub stays-done : (e : Entry) → a .answer ≡ Done e
       → record { channel = left-as; tally = a .standing .tally; done = w .done + 1; full = false; slave = w .slave; master = w .master }
@@ -128,7 +128,7 @@ module _ (route : Route) (budget : ℕ) (s : State) (inactive : List Bool) (dire
     unfolding turnOf
     arbitrates = sym (ap (turnBy route budget before) p)
 
-    pub turn-full : (low : ℕ) → ltb clockLimit (s .standing .clock + arbitrationTime) ≡ true
+    pub turn-full : (low : ℕ) → ltb clockLimit (s .standing .clock + arbitrationTime (s .standing .ever)) ≡ true
         → runningOf (record { standing = s .standing; done = s .done; full = true; low = low }) inactive direction space address left
         offset slave master
         ≡ turnOf route budget before
@@ -137,7 +137,7 @@ module _ (route : Route) (budget : ℕ) (s : State) (inactive : List Bool) (dire
         stays-full route before (fullActed (s .standing)) inactive (x .0) (x .1) refl refl ∙ arbitrates
 
     pub turn-grant : (r : State) (a : Acted) (marks : List Bool) (base : ℕ) (c : Chosen)
-        → ltb clockLimit (s .standing .clock + arbitrationTime) ≡ false → IsChosen left inactive marks base c
+        → ltb clockLimit (s .standing .clock + arbitrationTime (s .standing .ever)) ≡ false → IsChosen left inactive marks base c
         → a ≡ grantedBy (s .standing) (c .winner) (c .active) → r ≡ steppedOn a (s .done) (c .low)
         → runningOf r marks direction space address left offset slave master ≡ turnOf route budget before
     unfolding grantedBy
@@ -171,19 +171,18 @@ module _ (route : Route) (budget : ℕ) (s : State) (inactive : List Bool) (dire
 module _ (base low : ℕ) (ch : Channel) (x : Lows base low ch) where
   rest-lows : (asked : Asked) (s : Standing) (o : ℕ) → s .phase ≡ ch .phase
       → Lows base low (changed ch (restActed asked s o .standing .phase) (restActed asked s o .standing .asked)
-      (restActed asked s o .standing .clock)
-      (ch .inactive))
+      (restActed asked s o .standing .ever) (restActed asked s o .standing .clock) (ch .inactive))
   rest-lows Never s o e = record { most = x .most; small = x .small; none = x .none; clear = x .clear; owner = rw e (x .owner) }
   rest-lows (At t) s o e = record { most = x .most; small = x .small; none = x .none; clear = x .clear; owner = x .small }
 
   pub lows-rest : (r : State) (a : Acted) (s : Standing) (o done : ℕ) → s .phase ≡ ch .phase → a ≡ restActed (s .asked) s o → r
       ≡ steppedOn a done low
-      → Lows base (r .low) (changed ch (r .standing .phase) (r .standing .asked) (r .standing .clock) (ch .inactive))
+      → Lows base (r .low) (changed ch (r .standing .phase) (r .standing .asked) (r .standing .ever) (r .standing .clock) (ch .inactive))
   lows-rest r a s o done p g e = rw (e, g) (rest-lows (s .asked) s o p)
 
   grant-lows : (marks : List Bool) (c : Chosen) (a : Standing) → IsChosen (ch .left) (ch .inactive) marks base c → a .phase
       ≡ Granted (c .winner)
-      → Lows base (c .low) (changed ch (a .phase) (a .asked) (a .clock) marks)
+      → Lows base (c .low) (changed ch (a .phase) (a .asked) (a .ever) (a .clock) marks)
   grant-lows marks c a i e =
       record {
         most = x .most;
@@ -196,7 +195,7 @@ module _ (base low : ℕ) (ch : Channel) (x : Lows base low ch) where
   pub lows-grant : (r : State) (a : Acted) (s : Standing) (done : ℕ) (marks : List Bool) (c : Chosen)
       → IsChosen (ch .left) (ch .inactive) marks base c
       → a ≡ grantedBy s (c .winner) (c .active) → r ≡ steppedOn a done (c .low)
-      → Lows base (r .low) (changed ch (r .standing .phase) (r .standing .asked) (r .standing .clock) marks)
+      → Lows base (r .low) (changed ch (r .standing .phase) (r .standing .asked) (r .standing .ever) (r .standing .clock) marks)
   unfolding grantedBy
   lows-grant r a s done marks c i g e = rw (e, g) (grant-lows marks c (grantedBy s (c .winner) (c .active) .standing) i refl)
 

@@ -41,7 +41,7 @@ ownerPlan setup ch owner = requestPlan setup ch owner (requestOf ch owner)
 
 -- "Arbitrating. The lowest-numbered level with an open request and no inactive mark wins .. The winner is the owner"
 abbrev pub phasePlan : Setup → Channel → Phase → Plan
-phasePlan setup ch Arbitrating = withinClock ch arbitrationTime (Grant (winner (ch .left) (ch .inactive)))
+phasePlan setup ch Arbitrating = withinClock ch (arbitrationTime (ch .ever)) (Grant (winner (ch .left) (ch .inactive)))
 phasePlan setup ch (Granted owner) = ownerPlan setup ch owner
 
 unfoldable pub actPlan : Setup → Channel → Plan

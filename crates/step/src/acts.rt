@@ -38,6 +38,7 @@ ghost use Rattle.step.specs.inner.Machine.{Actable, decidedOf, decidedMa
 pub(crate) struct Standing {
     pub phase: Phase,
     pub asked: Asked,
+    pub ever: bool,
     pub clock: u32,
     pub tally: Tally,
 }
@@ -134,6 +135,7 @@ pub(crate) fn channel_of(
     Channel {
         phase: phase,
         asked: asked,
+        ever: standing.ever,
         clock: standing.clock,
         inactive: inactive,
         direction: direction,
@@ -217,17 +219,18 @@ pub(crate) fn full_acted(standing: Standing) -> Acted
     }
 }
 
-// The winner is the owner, with no asked time until the line rule sets one.
+// The winner is the owner, with no asked time until the line rule sets one. The channel has now been granted.
 pub(crate) fn granted_by(standing: Standing, chosen: Chosen) -> Acted
-    requires { ⌜ standing .clock + arbitrationTime ≤ clockLimit ⌝ }
+    requires { ⌜ standing .clock + arbitrationTime (standing .ever) ≤ clockLimit ⌝ }
     ensures { λ r. ⌜ r ≡ grantedBy standing (chosen .winner) (chosen .active) ⌝ }
 {
-    let clock = standing.clock + act::arbitration_time();
+    let clock = standing.clock + act::arbitration_time(standing.ever);
     let asked = channel::asked_if(chosen.active, clock);
     let tally = tally::add_grant(standing.tally);
     let next = Standing {
         phase: Phase::Granted(chosen.winner),
         asked: asked,
+        ever: true,
         clock: clock,
         tally: tally,
     };
@@ -254,6 +257,7 @@ pub(crate) fn rest_acted(standing: Standing, owner: u8) -> Acted
             let next = Standing {
                 phase: Phase::Arbitrating,
                 asked: Asked::Never,
+                ever: standing.ever,
                 clock: standing.clock,
                 tally: longest,
             };
@@ -276,10 +280,12 @@ pub(crate) fn standing_after(
 {
     let phase = standing.phase;
     let asked = standing.asked;
+    let ever = standing.ever;
     if act::is_kept(ending) {
         return Standing {
             phase: phase,
             asked: asked,
+            ever: ever,
             clock: clock,
             tally: tally,
         };
@@ -287,6 +293,7 @@ pub(crate) fn standing_after(
     Standing {
         phase: Phase::Arbitrating,
         asked: Asked::Never,
+        ever: ever,
         clock: clock,
         tally: tally,
     }
@@ -385,7 +392,7 @@ pub(crate) fn act_on(
     let phase = standing.phase;
     match phase {
         Phase::Arbitrating => {
-            if is_full(standing.clock, act::arbitration_time()) {
+            if is_full(standing.clock, act::arbitration_time(standing.ever)) {
                 return stay(full_acted(standing), request);
             }
             let chosen = choose(left, inactive, 0, 0);

@@ -134,6 +134,7 @@ fn decide_in_place(setup: Setup, channel: Channel, tally: Tally) -> Decision
     let standing = Standing {
         phase: phase,
         asked: asked,
+        ever: channel.ever,
         clock: channel.clock,
         tally: tally,
     };

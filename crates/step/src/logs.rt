@@ -121,6 +121,7 @@ pub(crate) fn log_steps(
     let standing = Standing {
         phase: phase,
         asked: asked,
+        ever: channel.ever,
         clock: channel.clock,
         tally: tally,
     };

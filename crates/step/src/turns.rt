@@ -231,7 +231,7 @@ fn turn(
     let phase = standing.phase;
     match phase {
         Phase::Arbitrating => {
-            if is_full(standing.clock, act::arbitration_time()) {
+            if is_full(standing.clock, act::arbitration_time(standing.ever)) {
                 return State {
                     standing: standing,
                     done: state.done,
@@ -354,6 +354,7 @@ pub(crate) fn run_steps(
     let standing = Standing {
         phase: phase,
         asked: asked,
+        ever: channel.ever,
         clock: channel.clock,
         tally: tally,
     };

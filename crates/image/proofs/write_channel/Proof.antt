@@ -38,7 +38,7 @@ returns c =
     let written = c .before .before .put-whole .ensures in
     let bytes = allBytes (channelNumbers (a .channel)) in
     let count = laid .ensures .0 ∙ zero-add (length bytes) in
-    let front = laid-front (replicate 425 0) bytes (laid .result) (omega (arith, channel-size (a .channel))) count (laid .ensures .1) in (
+    let front = laid-front (replicate 430 0) bytes (laid .result) (omega (arith, channel-size (a .channel))) count (laid .ensures .1) in (
       written .0 ∙ ap (λ (b : List ℕ). wholeAt (now (a .out)) (a .at) b) front,
       written .1 ∙ ap (λ (b : List ℕ). wholeAfter (now (a .out)) (a .at) b) front,
     )

@@ -18,6 +18,7 @@ are-clauses-sound-spec =
     (tie.spec
     (λ c κs. search needs)  -- is-owner-sound-requires
     returns
+    (λ c κs. search needs)  -- is-never-granted-sound-requires
     (λ c κs. search needs)  -- are-requests-sound-requires
     (λ c κs. search needs)  -- line-active-requires
     (λ c κs. search needs)  -- are-marks-sound-requires

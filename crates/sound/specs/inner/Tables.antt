@@ -46,11 +46,12 @@ pub record AreMembers (levels : LevelRows) (members : Members) : Type 0 where
 abbrev pub membersAt : List Bool → List Bool → Members
 membersAt present fair = record { present = present; fair = fair }
 
-abbrev pub channelAt : Phase → Asked → ℕ → List Bool → List ℕ → List ℕ → List ℕ → List ℕ → List ℕ → Channel
-channelAt phase asked clock inactive direction space address left offset =
+abbrev pub channelAt : Phase → Asked → Bool → ℕ → List Bool → List ℕ → List ℕ → List ℕ → List ℕ → List ℕ → Channel
+channelAt phase asked ever clock inactive direction space address left offset =
     record {
       phase = phase;
       asked = asked;
+      ever = ever;
       clock = clock;
       inactive = inactive;
       direction = direction;

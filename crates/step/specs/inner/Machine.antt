@@ -2,7 +2,7 @@
 -- `decisionOf`, `stepOf` and `runOf` alone, and proofs/MachineLaws shows that this is the same.
 use Prim.Native.Nat.{ℕ, zero, suc, _+_, _-_, _%_, _≤_, _<_}
 use mathlib.Core.Path.{_≡_}
-use mathlib.Core.Bool.{Bool, false, cond, not, _&&_, _||_}
+use mathlib.Core.Bool.{Bool, true, false, cond, not, _&&_, _||_}
 use mathlib.Core.List.{List}
 use lib.ListN.{set, replicate}
 use lib.Dec.{eqb, ltb}
@@ -105,6 +105,7 @@ channelOf s inactive direction space address left offset =
     record {
       phase = s .phase;
       asked = s .asked;
+      ever = s .ever;
       clock = s .clock;
       inactive = inactive;
       direction = direction;
@@ -115,7 +116,7 @@ channelOf s inactive direction space address left offset =
     }
 
 abbrev pub standingOf : Channel → Tally → Standing
-standingOf ch t = record { phase = ch .phase; asked = ch .asked; clock = ch .clock; tally = t }
+standingOf ch t = record { phase = ch .phase; asked = ch .asked; ever = ch .ever; clock = ch .clock; tally = t }
 
 -- refusal 6
 unfoldable pub fullActed : Standing → Acted
@@ -128,11 +129,12 @@ grantedBy s w active =
       standing =
           record {
             phase = Granted w;
-            asked = askedIf active (s .clock + arbitrationTime);
-            clock = s .clock + arbitrationTime;
+            asked = askedIf active (s .clock + arbitrationTime (s .ever));
+            ever = true;
+            clock = s .clock + arbitrationTime (s .ever);
             tally = addGrant (s .tally);
           };
-      answer = Done (Grant (s .clock + arbitrationTime) w);
+      answer = Done (Grant (s .clock + arbitrationTime (s .ever)) w);
     }
 
 -- an owner without a request leaves where it is asked, and idles otherwise
@@ -140,7 +142,14 @@ abbrev pub restActed : Asked → Standing → ℕ → Acted
 restActed Never s o = record { standing = s; answer = Done (Idle (s .clock)) }
 restActed (At t) s o =
     record {
-      standing = record { phase = Arbitrating; asked = Never; clock = s .clock; tally = addRelease (s .tally) (After (s .clock - t)) };
+      standing =
+          record {
+            phase = Arbitrating;
+            asked = Never;
+            ever = s .ever;
+            clock = s .clock;
+            tally = addRelease (s .tally) (After (s .clock - t));
+          };
       answer = Done (Release (s .clock) o (After (s .clock - t)));
     }
 
@@ -150,6 +159,7 @@ standingAfter s clock t ending =
     record {
       phase = cond (isKept ending) (s .phase) Arbitrating;
       asked = cond (isKept ending) (s .asked) Never;
+      ever = s .ever;
       clock = clock;
       tally = t;
     }
@@ -193,7 +203,7 @@ abbrev pub decidedBy : Route → Standing → Request → List ℕ → List Bool
 decidedBy route s q left inactive Arbitrating =
     stayOf
     (cond
-    (ltb clockLimit (s .clock + arbitrationTime))
+    (ltb clockLimit (s .clock + arbitrationTime (s .ever)))
     (fullActed s)
     (grantedBy s (winner left inactive) (lineActive left (grantMarks left inactive) (Granted (winner left inactive)))))
     q
@@ -204,7 +214,7 @@ decidedBy route s q left inactive (Granted o) =
     (cond (ltb clockLimit (s .clock + route .time)) (stayOf (fullActed s) q) (cycleDecided route s o q))
 
 abbrev pub marksBy : Route → Standing → Request → List ℕ → List Bool → Phase → List Bool
-marksBy route s q left inactive Arbitrating = cond (ltb clockLimit (s .clock + arbitrationTime)) inactive (grantMarks left inactive)
+marksBy route s q left inactive Arbitrating = cond (ltb clockLimit (s .clock + arbitrationTime (s .ever))) inactive (grantMarks left inactive)
 marksBy route s q left inactive (Granted o) =
     cond (eqb (q .left) 0) inactive (cond (ltb clockLimit (s .clock + route .time)) inactive (cycleMarks route s o q inactive))
 
@@ -251,7 +261,7 @@ refusedLog ch t why at = record { ran = refusedRun ch t why; end = at }
 abbrev pub channelBy : Channel → Decided → List Bool → Channel
 channelBy ch d marks =
     withRequest
-    (changed ch (d .acted .standing .phase) (d .acted .standing .asked) (d .acted .standing .clock) marks)
+    (changed ch (d .acted .standing .phase) (d .acted .standing .asked) (d .acted .standing .ever) (d .acted .standing .clock) marks)
     (ownerPlace (ch .phase))
     (d .slot)
 

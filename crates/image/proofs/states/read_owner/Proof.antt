@@ -29,7 +29,7 @@ returns-2 c =
     let a = five .before .before .args in
     let e = sym (five .number-in .ensures) ∙ c .before .before .before .got2 .given .1 in
     rw e (c .read-marks .ensures
-    ∙ ap (λ (phase : Phase). marksAt (readNumber (now (a .bytes))) (a .clock) phase (c .before .before .before .got2 .given .0 .1 .0))
+    ∙ ap (λ (phase : Phase). marksAt (readNumber (now (a .bytes))) (a .ever) (a .clock) phase (c .before .before .before .got2 .given .0 .1 .0))
     (c .before .phase-of .ensures))
 
 pub read-owner-spec : {M : Type 1} → statement M

@@ -11,7 +11,7 @@ use Rattle.image.proofs.states.stands.Tie as tie
 returns : tie.Need-returns
 returns c =
     let a = c .before .args in
-    ap (λ (marks : List Bool). channelRead (changed freshChannel (a .phase) (a .asked) (a .clock) marks) (Good (a .end))) (c .marks-of .ensures)
+    ap (λ (marks : List Bool). channelRead (changed freshChannel (a .phase) (a .asked) (a .ever) (a .clock) marks) (Good (a .end))) (c .marks-of .ensures)
 
 pub stands-spec : {M : Type 1} → statement M
 stands-spec =
