@@ -8,7 +8,7 @@
 enum {
     SETUP_ROOM = GROUPS_MAX * (1 + 1 + 1 + LEVEL_FIELDS * MC_LEVELS + 1
                                + SLAVE_FIELDS * MC_SLAVES + 1),
-    CHANNEL_ROOM = GROUPS_MAX * (1 + 1 + 2 + 1 + 5 * MC_LEVELS),
+    CHANNEL_ROOM = GROUPS_MAX * (1 + 1 + 1 + 2 + 1 + 5 * MC_LEVELS),
     IMAGE_ROOM = SETUP_ROOM + CHANNEL_ROOM
 };
 
@@ -124,7 +124,8 @@ INLINE void take_requests(struct reader *reader, struct mc_channel *channel)
 
 INLINE void take_channel(struct reader *reader, struct mc_channel *channel)
 {
-    *channel = (struct mc_channel){.clock = take(reader)};
+    *channel = (struct mc_channel){.ever = take_between(reader, 0, 1) != 0};
+    channel->clock = take(reader);
     uint32_t owner = take_between(reader, 0, MC_LEVELS);
     if (owner != 0) {
         channel->phase = MC_GRANTED;
@@ -206,6 +207,7 @@ static uint8_t *put_setup(uint8_t *to, const struct mc_setup *setup)
 
 static uint8_t *put_channel(uint8_t *to, const struct mc_channel *channel)
 {
+    to = put(to, channel->ever);
     to = put(to, channel->clock);
     to = put(to, channel->phase == MC_GRANTED ? 1 + channel->owner : 0);
     to = put(to, channel->has_asked);

@@ -3,10 +3,11 @@
  *
  * It is a row of the sheet's numbers: the layout, the edition, the level count
  * and rows, the slave count and rows, and the length of the master store; then
- * the clock, the owner (0 while arbitrating, else 1 + its level), the asked time
- * (0 for none, else 1 and the time), the inactive marks (bit n: level n), and for
- * each level from 0 to 15 the bytes left of its request and, unless that is 0,
- * direction, space, address and offset.
+ * whether the channel has ever been granted (0 or 1), the clock, the owner (0
+ * while arbitrating, else 1 + its level), the asked time (0 for none, else 1 and
+ * the time), the inactive marks (bit n: level n), and for each level from 0 to 15
+ * the bytes left of its request and, unless that is 0, direction, space, address
+ * and offset.
  *
  * Malformed, 18, is an image of another shape.  One of this shape may still break
  * the frame or be unsound: that is 9, which the reader leaves to the calls.
@@ -17,14 +18,14 @@
 #include "second.h"
 
 enum {
-    MC_LAYOUT = 1,
+    MC_LAYOUT = 2, /* 1 was without the flag of the grants */
     /*
      * The longest image of a sound channel: sixteen levels, sixteen memory rows
      * above 2 MB of which three lengths take three bytes and the rest two, and
      * all requests open.
      */
     MC_IMAGE_MOST = 1 + 1 + 1 + 3 * MC_LEVELS + 1 + (8 * MC_SLAVES + 3 * 3 + 13 * 2) + 3
-                  + 5 + 1 + 6 + 3 + 11 * MC_LEVELS
+                  + 1 + 5 + 1 + 6 + 3 + 11 * MC_LEVELS
 };
 
 /* ---- Reading and writing ------------------------------------------------ */

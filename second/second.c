@@ -315,6 +315,13 @@ static bool clock_above_limit(const struct mc_channel *channel)
     return channel->clock > MC_CLOCK_LIMIT;
 }
 
+/* Before the first grant there are only posts, which take no time and mark nobody. */
+static bool used_without_grant(const struct mc_channel *channel)
+{
+    return !channel->ever
+        && (is_granted(channel) || channel->inactive != 0 || channel->clock > 0);
+}
+
 static bool asked_while_arbitrating(const struct mc_channel *channel)
 {
     return channel->phase == MC_ARBITRATING && channel->has_asked;
@@ -389,6 +396,7 @@ bool mc_is_unsound(const struct mc_setup *setup, const struct mc_channel *channe
         || mark_at_unfair(setup, channel)
         || mark_without_line(channel)
         || clock_above_limit(channel)
+        || used_without_grant(channel)
         || asked_while_arbitrating(channel)
         || asked_without_line(channel)
         || line_without_asked(channel)
@@ -426,7 +434,7 @@ enum mc_refusal mc_check_run(const struct mc_setup *setup, const struct mc_chann
 
 /* ---- The line rule ----------------------------------------------------- */
 
-/* What the line rule reads and sets. */
+/* All but the requests: what the line rule reads and sets, and whether there was a grant. */
 struct bus {
     uint32_t open;      /* bit n: level n has an open request */
     uint32_t inactive;  /* bit n: level n is inactive */
@@ -434,6 +442,7 @@ struct bus {
     uint32_t owner_bit;
     bool has_asked;
     uint32_t asked;
+    bool ever;
     uint32_t clock;
 };
 
@@ -446,6 +455,7 @@ static struct bus get_bus(const struct mc_channel *channel)
         .owner_bit = owner_of(channel),
         .has_asked = channel->has_asked,
         .asked = channel->asked,
+        .ever = channel->ever,
         .clock = channel->clock,
     };
 }
@@ -458,6 +468,7 @@ INLINE void put_bus(struct mc_channel *channel, const struct bus *bus)
     channel->owner = bus->owner;
     channel->has_asked = bus->has_asked;
     channel->asked = bus->has_asked ? bus->asked : 0;
+    channel->ever = bus->ever;
     channel->clock = bus->clock;
 }
 
@@ -651,16 +662,27 @@ INLINE uint32_t lowest_level(uint32_t levels)
     return level + ((levels & 1) == 0);
 }
 
+/*
+ * Only the first after set-up comes without a release before it.  The flag says
+ * so and not the clock, which may be 0 in a channel that was granted before.
+ */
+INLINE uint32_t arbitration_time(const struct bus *bus)
+{
+    return bus->ever ? MC_TO_ARB_TIME + MC_ARBITRATION_TIME : MC_ARBITRATION_TIME;
+}
+
 INLINE enum mc_refusal arbitrate(struct engine *engine, struct mc_entry *entry)
 {
     struct bus *bus = &engine->bus;
-    if (clock_would_pass(bus, MC_ARBITRATION_TIME))
+    uint32_t time = arbitration_time(bus);
+    if (clock_would_pass(bus, time))
         return MC_CLOCK_FULL;
 
     uint32_t contenders = bus->open & ~bus->inactive;
     bus->owner = contenders != 0 ? lowest_level(contenders) : MC_SYSTEM_MASTER;
     bus->owner_bit = level_bit(bus->owner);
-    bus->clock += MC_ARBITRATION_TIME;
+    bus->ever = true;
+    bus->clock += time;
     start_entry(entry, MC_GRANT, bus->clock, bus->owner);
     read_slot(engine);
     apply_line_rule(bus);

@@ -25,7 +25,8 @@ enum {
     MC_LENGTH_MAX = 4096,      /* bytes of one request */
     MC_STEPS_MAX = 65535,      /* steps of one run */
     MC_EVENTS_MAX = 1024,
-    MC_ARBITRATION_TIME = 100, /* ns */
+    MC_ARBITRATION_TIME = 100, /* ns, T44 */
+    MC_TO_ARB_TIME = 30,       /* ns more wherever the channel has been granted before, T41 */
     MC_PREEMPT_TIME = 7800     /* ns a preempted owner has */
 };
 
@@ -107,6 +108,7 @@ struct mc_channel {
     uint32_t owner; /* while granted */
     bool has_asked; /* while granted; an asked time of 0 is a time like any other */
     uint32_t asked; /* where has_asked */
+    bool ever;      /* it has ever been granted */
     uint32_t clock; /* ns */
 };
 

@@ -82,7 +82,8 @@ static inline bool same_channel(const struct mc_channel *a, const struct mc_chan
         && memcmp(a->left, b->left, sizeof a->left) == 0
         && memcmp(a->offset, b->offset, sizeof a->offset) == 0
         && a->inactive == b->inactive && a->phase == b->phase && a->owner == b->owner
-        && a->has_asked == b->has_asked && a->asked == b->asked && a->clock == b->clock;
+        && a->has_asked == b->has_asked && a->asked == b->asked && a->ever == b->ever
+        && a->clock == b->clock;
 }
 
 static inline bool same_tally(const struct mc_tally *a, const struct mc_tally *b)

@@ -205,7 +205,7 @@ static void expect_bytes(const struct machine *machine, const uint8_t *bytes, si
 
 /* The set-up of the document's sheet, with 4,096 bytes of master store. */
 #define HEAD_BYTES                                                             \
-    1, 1, 3, 3, 4, 3, 7, 2, 2, 15, 4, 0, 1, 1, 0x80, 0x20, 16, 2, 0xC8, 1, 0x80, 0x20
+    2, 1, 3, 3, 4, 3, 7, 2, 2, 15, 4, 0, 1, 1, 0x80, 0x20, 16, 2, 0xC8, 1, 0x80, 0x20
 enum { HEAD_END = 22 };
 
 #define FOUR(...) __VA_ARGS__, __VA_ARGS__, __VA_ARGS__, __VA_ARGS__
@@ -222,22 +222,29 @@ static void test_layout(void)
     };
     static struct machine machine;
     start(&machine, &setup);
-    BYTES(0, 0, 0, 0, SIXTEEN(0));
+    BYTES(0, 0, 0, 0, 0, SIXTEEN(0));
     CHECK(post(&machine, 3, 1, 1, 4097, 7, 0) == MC_OK);
-    BYTES(0, 0, 0, 0, 0, 0, 0, 7, 1, 1, 0x81, 0x20, 0, FOUR(0, 0, 0));
-    run(&machine, 2);
-    BYTES(0xAC, 2, 4, 0, 0, 0, 0, 0, 6, 1, 1, 0x82, 0x20, 1, FOUR(0, 0, 0));
+    BYTES(0, 0, 0, 0, 0, 0, 0, 0, 7, 1, 1, 0x81, 0x20, 0, FOUR(0, 0, 0));
+    run(&machine, 1); /* the first grant, after 100 ns */
+    BYTES(1, 100, 4, 0, 0, 0, 0, 0, 7, 1, 1, 0x81, 0x20, 0, FOUR(0, 0, 0));
+    run(&machine, 1);
+    BYTES(1, 0xAC, 2, 4, 0, 0, 0, 0, 0, 6, 1, 1, 0x82, 0x20, 1, FOUR(0, 0, 0));
     CHECK(post(&machine, 7, 0, 1, 4096, 2, 16) == MC_OK);
-    BYTES(0xAC, 2, 4, 1, 0xAC, 2, 0, 0, 0, 0, 6, 1, 1, 0x82, 0x20, 1, 0, 0, 0, 2, 0, 1, 0x80, 0x20,
-          16, FOUR(0, 0));
+    BYTES(1, 0xAC, 2, 4, 1, 0xAC, 2, 0, 0, 0, 0, 6, 1, 1, 0x82, 0x20, 1, 0, 0, 0, 2, 0, 1, 0x80,
+          0x20, 16, FOUR(0, 0));
     run(&machine, 1); /* 3 releases and is marked */
-    BYTES(0xF4, 3, 0, 0, 8, 0, 0, 0, 4, 1, 1, 0x84, 0x20, 3, 0, 0, 0, 2, 0, 1, 0x80, 0x20, 16,
+    BYTES(1, 0xF4, 3, 0, 0, 8, 0, 0, 0, 4, 1, 1, 0x84, 0x20, 3, 0, 0, 0, 2, 0, 1, 0x80, 0x20, 16,
           FOUR(0, 0));
-    run(&machine, 1); /* the line falls with 7's grant, so the mark goes and 3 asks */
-    BYTES(0xD8, 4, 8, 1, 0xD8, 4, 0, 0, 0, 0, 4, 1, 1, 0x84, 0x20, 3, 0, 0, 0, 2, 0, 1, 0x80, 0x20,
-          16, FOUR(0, 0));
-    run(&machine, 5); /* all is done, and 15 owns the channel */
-    BYTES(0xF8, 10, 16, 0, 0, SIXTEEN(0));
+    run(&machine, 1); /* at 630 the line falls with 7's grant, so the mark goes and 3 asks */
+    BYTES(1, 0xF6, 4, 8, 1, 0xF6, 4, 0, 0, 0, 0, 4, 1, 1, 0x84, 0x20, 3, 0, 0, 0, 2, 0, 1, 0x80,
+          0x20, 16, FOUR(0, 0));
+    run(&machine, 5); /* all is done at 1490, and 15 owns the channel */
+    BYTES(1, 0xD2, 11, 16, 0, 0, SIXTEEN(0));
+
+    /* Granted before, and again arbitrating at clock 0: only the flag tells it from a fresh one. */
+    start(&machine, &setup);
+    machine.channel.ever = true;
+    BYTES(1, 0, 0, 0, 0, SIXTEEN(0));
 
     /* What means nothing isn't written: an owner while arbitrating, a time without an asking. */
     start(&machine, &setup);
@@ -246,7 +253,35 @@ static void test_layout(void)
     machine.channel.asked = 77;
     struct image same = image_of(&machine);
     CHECK(same.length == fresh.length && memcmp(same.bytes, fresh.bytes, same.length) == 0);
-    CHECK(MC_IMAGE_MOST == 409 && MC_LAYOUT == 1 && MC_MALFORMED == 18);
+    CHECK(MC_IMAGE_MOST == 410 && MC_LAYOUT == 2 && MC_MALFORMED == 18);
+}
+
+/* The image after the first three lines of the document's sheet, by the calls over it alone. */
+static void test_example(void)
+{
+    static const uint32_t head[] = {1, 3, 3, 4, 3, 7, 2, 2, 15, 4, 0, 1, 1, 4096, 16, 2, 200};
+    static const struct mc_request request = {3, 1, 1, 4097, 7, 0};
+    static const uint8_t expected[] = {
+        0x02, 0x01, 0x03, 0x03, 0x04, 0x03, 0x07, 0x02, 0x02, 0x0F, 0x04, 0x00, 0x01, 0x01, 0x80,
+        0x20, 0x10, 0x02, 0xC8, 0x01, 0x80, 0x20, 0x01, 0xAC, 0x02, 0x04, 0x00, 0x00, 0x00, 0x00,
+        0x00, 0x06, 0x01, 0x01, 0x82, 0x20, 0x01, 0x00, 0x00, 0x00, 0x00, 0x00, 0x00, 0x00, 0x00,
+        0x00, 0x00, 0x00, 0x00,
+    };
+    uint8_t image[MC_IMAGE_MOST], slave[16] = {0}, master[4096] = {0};
+    const struct mc_stores stores = {slave, sizeof slave, master, sizeof master};
+
+    struct mc_image_result made =
+        mc_image_set_up(head, LENGTH(head), sizeof master, image, sizeof image);
+    CHECK(made.refusal == MC_OK && made.length == 43 && image[HEAD_END] == 0);
+    made = mc_image_post(image, sizeof image, made.length, &request);
+    CHECK(made.refusal == MC_OK && image[HEAD_END] == 0);
+    struct mc_image_step_result stepped =
+        mc_image_step(image, sizeof image, made.length, &stores, NULL);
+    CHECK(stepped.kind == 'G' && stepped.entry.clock == 100 && image[HEAD_END] == 1);
+    stepped = mc_image_step(image, sizeof image, stepped.length, &stores, NULL);
+    CHECK(stepped.kind == 'C' && stepped.entry.clock == 300);
+    CHECK(sizeof expected == 49 && stepped.length == sizeof expected);
+    CHECK(memcmp(image, expected, sizeof expected) == 0);
 }
 
 /* ---- Shape and sense ----------------------------------------------------- */
@@ -327,76 +362,118 @@ static void expect_judged(const uint32_t *numbers, size_t count, enum mc_refusal
 /* Parts of an image by their numbers; the slots are of levels without a request. */
 #define LEVEL 15, 4, 0
 #define SLAVE 1, 0, 16, 2, 200
-#define SETUP 1, 1, 1, LEVEL, 1, SLAVE, 64
+#define SETUP 2, 1, 1, LEVEL, 1, SLAVE, 64
 #define FIFTEEN_SLOTS FOUR(0, 0, 0), 0, 0, 0
 #define SLOTS SIXTEEN(0)
-#define FRESH 0, 0, 0, 0, SLOTS
+#define FRESH 0, 0, 0, 0, 0, SLOTS
 #define ANY UINT32_MAX
 
 static void test_shape(void)
 {
     JUDGED(0, SETUP, FRESH);
     JUDGED(18, SETUP, FRESH, 0);
-    JUDGED(18, SETUP, 0, 0, 0, 0, FIFTEEN_SLOTS);
-    JUDGED(0, SETUP, 0, 0, 0, 0, FIFTEEN_SLOTS, 4, 1, 1, 12, 60);
-    JUDGED(18, SETUP, 0, 0, 0, 0, FIFTEEN_SLOTS, 4, 1, 1, 12);
-    JUDGED(18, SETUP, 0, 0, 0, 0, FIFTEEN_SLOTS, 4, 1, 1, 12, 60, 0);
+    JUDGED(18, SETUP, 0, 0, 0, 0, 0, FIFTEEN_SLOTS);
+    JUDGED(0, SETUP, 0, 0, 0, 0, 0, FIFTEEN_SLOTS, 4, 1, 1, 12, 60);
+    JUDGED(18, SETUP, 0, 0, 0, 0, 0, FIFTEEN_SLOTS, 4, 1, 1, 12);
+    JUDGED(18, SETUP, 0, 0, 0, 0, 0, FIFTEEN_SLOTS, 4, 1, 1, 12, 60, 0);
     JUDGED(18, 0, 1, 1, LEVEL, 1, SLAVE, 64, FRESH);
-    JUDGED(18, 2, 1, 1, LEVEL, 1, SLAVE, 64, FRESH);
-    JUDGED(18, 1, 0, 1, LEVEL, 1, SLAVE, 64, FRESH);
-    JUDGED(18, 1, 2, 1, LEVEL, 1, SLAVE, 64, FRESH);
-    JUDGED(9, 1, 1, 16, SIXTEEN(LEVEL), 1, SLAVE, 64, FRESH);
-    JUDGED(18, 1, 1, 17, SIXTEEN(LEVEL), LEVEL, 1, SLAVE, 64, FRESH);
-    JUDGED(18, 1, 1, ANY, LEVEL, 1, SLAVE, 64, FRESH);
-    JUDGED(9, 1, 1, 1, LEVEL, 16, SIXTEEN(SLAVE), 64, FRESH);
-    JUDGED(18, 1, 1, 1, LEVEL, 17, SIXTEEN(SLAVE), SLAVE, 64, FRESH);
-    JUDGED(18, 1, 1, 1, LEVEL, ANY, SLAVE, 64, FRESH);
-    JUDGED(0, SETUP, 0, 16, 0, 0, SLOTS);
-    JUDGED(18, SETUP, 0, 17, 0, 0, SLOTS);
-    JUDGED(18, SETUP, 0, ANY, 0, 0, SLOTS);
-    JUDGED(9, SETUP, 0, 16, 1, 0, 0, SLOTS);
-    JUDGED(18, SETUP, 0, 16, 2, 0, 0, SLOTS);
-    JUDGED(9, SETUP, 0, 0, 0, 65535, SLOTS);
-    JUDGED(18, SETUP, 0, 0, 0, 65536, SLOTS);
+    JUDGED(18, 1, 1, 1, LEVEL, 1, SLAVE, 64, FRESH);
+    JUDGED(18, 3, 1, 1, LEVEL, 1, SLAVE, 64, FRESH);
+    JUDGED(18, ANY, 1, 1, LEVEL, 1, SLAVE, 64, FRESH);
+    JUDGED(18, 2, 0, 1, LEVEL, 1, SLAVE, 64, FRESH);
+    JUDGED(18, 2, 2, 1, LEVEL, 1, SLAVE, 64, FRESH);
+    JUDGED(9, 2, 1, 16, SIXTEEN(LEVEL), 1, SLAVE, 64, FRESH);
+    JUDGED(18, 2, 1, 17, SIXTEEN(LEVEL), LEVEL, 1, SLAVE, 64, FRESH);
+    JUDGED(18, 2, 1, ANY, LEVEL, 1, SLAVE, 64, FRESH);
+    JUDGED(9, 2, 1, 1, LEVEL, 16, SIXTEEN(SLAVE), 64, FRESH);
+    JUDGED(18, 2, 1, 1, LEVEL, 17, SIXTEEN(SLAVE), SLAVE, 64, FRESH);
+    JUDGED(18, 2, 1, 1, LEVEL, ANY, SLAVE, 64, FRESH);
+    JUDGED(0, SETUP, 1, 0, 16, 0, 0, SLOTS);
+    JUDGED(18, SETUP, 1, 0, 17, 0, 0, SLOTS);
+    JUDGED(18, SETUP, 1, 0, ANY, 0, 0, SLOTS);
+    JUDGED(9, SETUP, 1, 0, 16, 1, 0, 0, SLOTS);
+    JUDGED(18, SETUP, 1, 0, 16, 2, 0, 0, SLOTS);
+    JUDGED(9, SETUP, 1, 0, 0, 0, 65535, SLOTS);
+    JUDGED(18, SETUP, 1, 0, 0, 0, 65536, SLOTS);
 
     struct image too_long = {.length = IMAGE_ROOM};
     memset(too_long.bytes, 1, IMAGE_ROOM);
     CHECK(judge_by_calls(&too_long) == MC_MALFORMED);
 }
 
+/* The flag of the grants is 0 or 1, and layout 1, which was without it, isn't read. */
+static void test_flag(void)
+{
+    JUDGED(0, SETUP, 0, 0, 0, 0, 0, SLOTS);
+    JUDGED(0, SETUP, 1, 0, 0, 0, 0, SLOTS);
+    JUDGED(18, SETUP, 2, 0, 0, 0, 0, SLOTS);
+    JUDGED(18, SETUP, 127, 0, 0, 0, 0, SLOTS);
+    JUDGED(18, SETUP, 128, 0, 0, 0, 0, SLOTS);
+    JUDGED(18, SETUP, 129, 0, 0, 0, 0, SLOTS);
+    JUDGED(18, SETUP, 256, 0, 0, 0, 0, SLOTS);
+    JUDGED(18, SETUP, ANY, 0, 0, 0, 0, SLOTS);
+    JUDGED(18, SETUP, 2, ANY, 0, 0, 0, SLOTS);
+
+    /* The images of layout 1: fresh, and as 15 owns the channel at 100. */
+    JUDGED(18, 1, 1, 1, LEVEL, 1, SLAVE, 64, 0, 0, 0, 0, SLOTS);
+    JUDGED(18, 1, 1, 1, LEVEL, 1, SLAVE, 64, 100, 16, 0, 0, SLOTS);
+    /* The same under the new number lack the flag. */
+    JUDGED(18, SETUP, 0, 0, 0, 0, SLOTS);
+    JUDGED(18, SETUP, 1, 16, 0, 0, SLOTS);
+    JUDGED(18, SETUP, 100, 16, 0, 0, SLOTS);
+}
+
 /* In an image of the right shape the numbers may be any; 18 comes before 9. */
 static void test_sense(void)
 {
-    JUDGED(9, 1, 1, 0, 1, SLAVE, 64, FRESH);
-    JUDGED(9, 1, 1, 1, LEVEL, 0, 64, FRESH);
-    JUDGED(9, 1, 1, 1, ANY, 4, 0, 1, SLAVE, 64, FRESH);
-    JUDGED(9, 1, 1, 1, 15, ANY, 0, 1, SLAVE, 64, FRESH);
-    JUDGED(9, 1, 1, 1, 15, 4, ANY, 1, SLAVE, 64, FRESH);
-    JUDGED(9, 1, 1, 1, LEVEL, 1, 2, 0, 16, 2, 200, 64, FRESH);
-    JUDGED(9, 1, 1, 1, LEVEL, 1, 1, ANY, ANY, 2, 200, 64, FRESH);
-    JUDGED(9, 1, 1, 1, LEVEL, 1, 1, 0, 16, 3, 200, 64, FRESH);
-    JUDGED(9, 1, 1, 1, LEVEL, 1, 1, 0, 16, 2, 199, 64, FRESH);
-    JUDGED(9, 1, 1, 1, LEVEL, 1, SLAVE, 0, FRESH);
-    JUDGED(0, 1, 1, 1, LEVEL, 1, SLAVE, 65536, FRESH);
-    JUDGED(9, 1, 1, 1, LEVEL, 1, SLAVE, 65537, FRESH);
-    JUDGED(0, SETUP, 4000000000, 0, 0, 0, SLOTS);
-    JUDGED(9, SETUP, 4000000001, 0, 0, 0, SLOTS);
-    JUDGED(9, SETUP, ANY, 0, 0, 0, SLOTS);
-    JUDGED(9, SETUP, 0, 1, 0, 0, SLOTS);
-    JUDGED(9, SETUP, 0, 0, 1, 0, 0, SLOTS);
-    JUDGED(9, SETUP, 0, 0, 0, 0, 1, 1, 1, 12, 60, FIFTEEN_SLOTS);
-    JUDGED(9, SETUP, 0, 0, 0, 0, FIFTEEN_SLOTS, 5, 1, 1, 12, 59);
-    JUDGED(9, SETUP, 0, 0, 0, 0, FIFTEEN_SLOTS, 4, 2, 1, 12, 60);
-    JUDGED(9, SETUP, 0, 0, 0, 0, FIFTEEN_SLOTS, 4, 1, 2, 12, 60);
-    JUDGED(9, SETUP, 0, 0, 0, 0, FIFTEEN_SLOTS, 4, 1, 1, 12, 61);
-    JUDGED(9, 1, 1, 16, SIXTEEN(ANY, ANY, ANY), 16, SIXTEEN(ANY, ANY, ANY, ANY, ANY), ANY, ANY, 16,
-           1, ANY, 65535, SIXTEEN(ANY, ANY, ANY, ANY, ANY));
-    JUDGED(18, SETUP, ANY, 0, 0, 0, SLOTS, 0);
-    JUDGED(18, 1, 1, 0, 0, 0, ANY, 0, 2, 0, 0, SLOTS);
+    JUDGED(9, 2, 1, 0, 1, SLAVE, 64, FRESH);
+    JUDGED(9, 2, 1, 1, LEVEL, 0, 64, FRESH);
+    JUDGED(9, 2, 1, 1, ANY, 4, 0, 1, SLAVE, 64, FRESH);
+    JUDGED(9, 2, 1, 1, 15, ANY, 0, 1, SLAVE, 64, FRESH);
+    JUDGED(9, 2, 1, 1, 15, 4, ANY, 1, SLAVE, 64, FRESH);
+    JUDGED(9, 2, 1, 1, LEVEL, 1, 2, 0, 16, 2, 200, 64, FRESH);
+    JUDGED(9, 2, 1, 1, LEVEL, 1, 1, ANY, ANY, 2, 200, 64, FRESH);
+    JUDGED(9, 2, 1, 1, LEVEL, 1, 1, 0, 16, 3, 200, 64, FRESH);
+    JUDGED(9, 2, 1, 1, LEVEL, 1, 1, 0, 16, 2, 199, 64, FRESH);
+    JUDGED(9, 2, 1, 1, LEVEL, 1, SLAVE, 0, FRESH);
+    JUDGED(0, 2, 1, 1, LEVEL, 1, SLAVE, 65536, FRESH);
+    JUDGED(9, 2, 1, 1, LEVEL, 1, SLAVE, 65537, FRESH);
+    JUDGED(0, SETUP, 1, 4000000000, 0, 0, 0, SLOTS);
+    JUDGED(9, SETUP, 1, 4000000001, 0, 0, 0, SLOTS);
+    JUDGED(9, SETUP, 1, ANY, 0, 0, 0, SLOTS);
+    JUDGED(9, SETUP, 1, 0, 1, 0, 0, SLOTS);
+    JUDGED(9, SETUP, 1, 0, 0, 1, 0, 0, SLOTS);
+    JUDGED(9, SETUP, 0, 0, 0, 0, 0, 1, 1, 1, 12, 60, FIFTEEN_SLOTS);
+    JUDGED(9, SETUP, 0, 0, 0, 0, 0, FIFTEEN_SLOTS, 5, 1, 1, 12, 59);
+    JUDGED(9, SETUP, 0, 0, 0, 0, 0, FIFTEEN_SLOTS, 4, 2, 1, 12, 60);
+    JUDGED(9, SETUP, 0, 0, 0, 0, 0, FIFTEEN_SLOTS, 4, 1, 2, 12, 60);
+    JUDGED(9, SETUP, 0, 0, 0, 0, 0, FIFTEEN_SLOTS, 4, 1, 1, 12, 61);
+    JUDGED(9, 2, 1, 16, SIXTEEN(ANY, ANY, ANY), 16, SIXTEEN(ANY, ANY, ANY, ANY, ANY), ANY, 1, ANY,
+           16, 1, ANY, 65535, SIXTEEN(ANY, ANY, ANY, ANY, ANY));
+    JUDGED(18, SETUP, 1, ANY, 0, 0, 0, SLOTS, 0);
+    JUDGED(18, 2, 1, 0, 0, 0, 1, ANY, 0, 2, 0, 0, SLOTS);
 }
 
-/* The bytes of a number as the clock, between the set-up and the rest. */
-#define NUMBER(refusal, ...)                                                   \
+/* With level 3 fair, and 15 waiting: the line is active, so 3 may be marked. */
+#define TWO_LEVELS 2, 1, 2, 3, 4, 2, LEVEL, 1, SLAVE, 64
+#define WAITING FIFTEEN_SLOTS, 4, 1, 1, 12, 60
+
+/* Never granted, which is 9 with an owner, a mark or a clock, and fine with a request. */
+static void test_never_granted(void)
+{
+    JUDGED(9, SETUP, 0, 0, 16, 0, 0, SLOTS);
+    JUDGED(0, SETUP, 1, 0, 16, 0, 0, SLOTS);
+    JUDGED(9, SETUP, 0, 1, 0, 0, 0, SLOTS);
+    JUDGED(0, SETUP, 1, 1, 0, 0, 0, SLOTS);
+    JUDGED(9, SETUP, 0, 4000000000, 0, 0, 0, SLOTS);
+    JUDGED(9, TWO_LEVELS, 0, 0, 0, 0, 8, WAITING);
+    JUDGED(0, TWO_LEVELS, 1, 0, 0, 0, 8, WAITING);
+    JUDGED(0, TWO_LEVELS, 0, 0, 0, 0, 0, WAITING);
+    JUDGED(0, TWO_LEVELS, 1, 0, 0, 0, 0, WAITING);
+}
+
+/* The bytes of the flag and the clock, between the set-up and the rest. */
+#define FLAG(refusal, ...)                                                     \
     do {                                                                       \
         static const struct image image = {                                    \
             .length = sizeof(uint8_t[]){HEAD_BYTES, __VA_ARGS__, REST},        \
@@ -404,6 +481,9 @@ static void test_sense(void)
         CHECK(judge_by_calls(&image) == refusal);                              \
     } while (0)
 #define REST 0, 0, 0, SIXTEEN(0)
+
+/* The bytes of a number as the clock. */
+#define NUMBER(refusal, ...) FLAG(refusal, 1, __VA_ARGS__)
 
 static void test_numbers(void)
 {
@@ -423,6 +503,14 @@ static void test_numbers(void)
     NUMBER(18, 0x80, 0x80, 0x80, 0x80, 0x10);
     NUMBER(18, 0xFF, 0xFF, 0xFF, 0xFF, 0x8F, 0x00);
     NUMBER(18, 0xFF, 0xFF, 0xFF, 0xFF, 0xFF, 0x01);
+
+    FLAG(0, 0x00, 0);
+    FLAG(0, 0x01, 0);
+    FLAG(18, 0x02, 0);
+    FLAG(18, 0x80, 0);
+    FLAG(18, 0x80, 0x00, 0);
+    FLAG(18, 0x81, 0x00, 0);
+    FLAG(18, 0x80, 0x01, 0);
 }
 
 /* ---- The set-up ---------------------------------------------------------- */
@@ -436,11 +524,11 @@ static void expect_set_up(const uint32_t *list, size_t count, uint32_t master_le
         mc_image_set_up(list, count, master_length, buffer, capacity);
     check_that(result.refusal == refusal, "set-up", line);
     if (refusal == MC_OK) {
-        add_number(&first, 1);
+        add_number(&first, 2);
         for (size_t i = 0; i < count; i++)
             add_number(&first, list[i]);
         add_number(&first, master_length);
-        for (int i = 0; i < 4 + MC_LEVELS; i++)
+        for (int i = 0; i < 5 + MC_LEVELS; i++)
             add_number(&first, 0);
     }
     check_that(result.length == first.length, "length", line);
@@ -456,7 +544,7 @@ static void expect_set_up(const uint32_t *list, size_t count, uint32_t master_le
 
 static void test_set_up(void)
 {
-    enum { FIRST_LENGTH = 13 + 1 + 20 };
+    enum { FIRST_LENGTH = 13 + 1 + 21 };
     SET_UP(0, 64, MC_IMAGE_MOST, 1, 1, LEVEL, 1, SLAVE);
     SET_UP(0, 64, FIRST_LENGTH, 1, 1, LEVEL, 1, SLAVE);
     SET_UP(17, 64, FIRST_LENGTH - 1, 1, 1, LEVEL, 1, SLAVE);
@@ -542,7 +630,8 @@ static void test_order(void)
     start(&machine, &small_setup);
     CHECK(post(&machine, 3, 1, 1, 4096, 8, 1) == MC_OK);
     CHECK(post(&machine, 9, 1, 0, 0, 8, 1) == MC_OK);
-    machine.channel.clock = MC_CLOCK_LIMIT - 99;
+    machine.channel.ever = true;
+    machine.channel.clock = MC_CLOCK_LIMIT - 129;
     struct image image = image_of(&machine);
     size_t full = image.length;
     CHECK(judge_by_calls(&image) == MC_OK); /* by 8, where a step would be 6 */
@@ -554,10 +643,10 @@ static void test_order(void)
     REFUSED(17, full, POST, .request = {7, 1, 1, 4096, 4, 4092});
     REFUSED(6, full, STEP, .budget = 0);
     REFUSED(7, full, RUN, .budget = 65536);
-    REFUSED(7, 408, RUN, .budget = UINT32_MAX);
-    REFUSED(7, 409, RUN, .budget = 65536);
-    REFUSED(17, 408, RUN, .budget = 65535);
-    REFUSED(17, 408, RUN, .budget = 0);
+    REFUSED(7, 409, RUN, .budget = UINT32_MAX);
+    REFUSED(7, 410, RUN, .budget = 65536);
+    REFUSED(17, 409, RUN, .budget = 65535);
+    REFUSED(17, 409, RUN, .budget = 0);
     machine.channel.clock--;
     REFUSED(17, full, STEP, .budget = 0);
 
@@ -605,7 +694,8 @@ static void test_random(void)
         if (!mc_fits_frame(&setup))
             continue;
         start(&plain, &setup);
-        if (below(&random, 8) == 0)
+        plain.channel.ever = below(&random, 4) == 0;
+        if (plain.channel.ever && below(&random, 2) == 0)
             plain.channel.clock = MC_CLOCK_LIMIT - below(&random, 30000);
         host = plain;
         for (int i = 0; i < 40; i++) {
@@ -681,8 +771,11 @@ static void test_longest(void)
 int main(void)
 {
     test_layout();
+    test_example();
     test_shape();
+    test_flag();
     test_sense();
+    test_never_granted();
     test_numbers();
     test_set_up();
     test_room();

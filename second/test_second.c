@@ -12,6 +12,8 @@ static void expect_frame(const struct mc_setup *setup, bool fits, int line)
     struct mc_channel channel;
     struct mc_channel fresh = {.phase = MC_ARBITRATING};
     memset(&channel, 1, offsetof(struct mc_channel, phase));
+    channel.ever = true;
+    channel.clock = 1;
     check_that(mc_fits_frame(setup) == fits, "frame", line);
     check_that(mc_set_up(setup, &channel) == (fits ? MC_OK : MC_UNSOUND), "set-up", line);
     check_that(same_channel(&channel, &fresh), "fresh channel", line);
@@ -176,6 +178,7 @@ static void test_post(void)
     CHECK(post(&machine, 3, 2, 2, 0, 0, UINT32_MAX) == MC_LEVEL_OPEN);
     CHECK(same_channel(&machine.channel, &once));
 
+    machine.channel.ever = true;
     machine.channel.clock = MC_CLOCK_LIMIT;
     CHECK(post(&machine, 15, 0, 0, 0, 16, 0) == MC_OK);
     machine.channel.clock = MC_CLOCK_LIMIT + 1;
@@ -190,6 +193,7 @@ static void test_asked_at_zero(void)
     start(&machine, &small_setup);
     machine.channel.phase = MC_GRANTED;
     machine.channel.owner = 15;
+    machine.channel.ever = true;
     CHECK(!mc_is_unsound(&machine.setup, &machine.channel));
     CHECK(post(&machine, 3, 0, 1, 4096, 4, 0) == MC_OK);
     CHECK(machine.channel.has_asked && machine.channel.asked == 0);
@@ -198,9 +202,135 @@ static void test_asked_at_zero(void)
     CHECK(entry.has_hold && entry.hold == 0);
     CHECK(machine.channel.phase == MC_ARBITRATING && !machine.channel.has_asked);
     CHECK(machine.channel.inactive == 0);
+    /* It was granted before, so the next arbitration is a later one, though the clock is 0. */
+    CHECK(step(&machine, &entry) == MC_OK);
+    CHECK(entry.kind == MC_GRANT && entry.clock == 130 && entry.level == 3);
 }
 
 /* ---- Steps and runs ------------------------------------------------------ */
+
+/* A step: its kind, how long it takes, and that only a grant touches the flag. */
+static void expect_time(struct machine *machine, enum mc_entry_kind kind, uint32_t time, int line)
+{
+    struct mc_channel before = machine->channel;
+    struct mc_entry entry = {0};
+    check_that(step(machine, &entry) == MC_OK && entry.kind == kind, "step", line);
+    check_that(entry.clock == before.clock + time, "time", line);
+    check_that(machine->channel.clock == entry.clock, "clock", line);
+    check_that(machine->channel.ever == (before.ever || kind == MC_GRANT), "ever", line);
+}
+
+#define TAKES(kind, time) expect_time(&machine, kind, time, __LINE__)
+
+/* 100 ns for the first arbitration after set-up and 130 for each later one, whoever wins. */
+static void test_arbitration_time(void)
+{
+    static struct machine machine;
+    start(&machine, &small_setup);
+    CHECK(!machine.channel.ever);
+    CHECK(post(&machine, 7, 1, 1, 4096, 4, 0) == MC_OK);
+    TAKES(MC_GRANT, 100);
+    TAKES(MC_CYCLE, 200); /* releases, its request not done */
+    TAKES(MC_GRANT, 130);
+    CHECK(post(&machine, 3, 1, 1, 4100, 8, 0) == MC_OK);
+    TAKES(MC_CYCLE, 200); /* releases, its request done, and is marked */
+    TAKES(MC_GRANT, 130);
+    TAKES(MC_CYCLE, 200); /* inside a transfer */
+    TAKES(MC_CYCLE, 200); /* kept after it: a burst */
+    TAKES(MC_CYCLE, 200);
+    TAKES(MC_CYCLE, 200);
+    TAKES(MC_GRANT, 130);
+    CHECK(machine.channel.owner == 15 && machine.channel.clock == 100 + 3 * 130 + 6 * 200);
+    TAKES(MC_IDLE, 0);
+
+    /* The default grant to 15 is a first grant too, and R is a release like any other. */
+    start(&machine, &small_setup);
+    TAKES(MC_GRANT, 100);
+    CHECK(machine.channel.owner == 15);
+    TAKES(MC_IDLE, 0);
+    CHECK(post(&machine, 7, 1, 1, 4096, 2, 0) == MC_OK);
+    TAKES(MC_RELEASE, 0);
+    TAKES(MC_GRANT, 130);
+    CHECK(machine.channel.owner == 7);
+    TAKES(MC_CYCLE, 200);
+    TAKES(MC_GRANT, 130);
+    CHECK(post(&machine, 9, 1, 0, 0, 1, 0) == MC_OK);
+    TAKES(MC_RELEASE, 0);
+    TAKES(MC_GRANT, 130);
+    CHECK(machine.channel.owner == 9);
+
+    /* It goes by the flag: at clock 0 too, with and without a request. */
+    start(&machine, &small_setup);
+    machine.channel.ever = true;
+    TAKES(MC_GRANT, 130);
+    start(&machine, &small_setup);
+    machine.channel.ever = true;
+    CHECK(post(&machine, 7, 1, 1, 4096, 4, 0) == MC_OK);
+    TAKES(MC_GRANT, 130);
+    CHECK(machine.channel.owner == 7);
+
+    /* The asked time is the clock after all of the grant: the 30 ns are no part of a hold. */
+    CHECK(post(&machine, 9, 1, 1, 4100, 4, 0) == MC_OK);
+    TAKES(MC_CYCLE, 200);
+    TAKES(MC_GRANT, 130);
+    CHECK(machine.channel.owner == 9 && machine.channel.asked == 460);
+    CHECK(machine.channel.clock == 460 && machine.tally.hold == 200);
+}
+
+/* The same in runs, cut anywhere: the flag goes from one to the next. */
+static void test_arbitration_time_of_runs(void)
+{
+    static struct machine machine;
+    static const uint32_t clocks[] = {0, 100, 300, 430, 630, 760, 760};
+    for (uint32_t first = 0; first < LENGTH(clocks); first++)
+        for (uint32_t second = 0; first + second < LENGTH(clocks); second++) {
+            start(&machine, &small_setup);
+            CHECK(post(&machine, 7, 1, 1, 4096, 4, 0) == MC_OK);
+            CHECK(run(&machine, first).steps == first);
+            CHECK(machine.channel.clock == clocks[first] && machine.channel.ever == (first > 0));
+            CHECK(run(&machine, second).steps == second);
+            CHECK(machine.channel.clock == clocks[first + second]);
+            CHECK(machine.channel.ever == (first + second > 0));
+        }
+
+    start(&machine, &small_setup);
+    CHECK(run(&machine, 1).steps == 1); /* the default grant */
+    CHECK(machine.channel.owner == 15 && machine.channel.clock == 100 && machine.channel.ever);
+    CHECK(post(&machine, 7, 1, 1, 4096, 2, 0) == MC_OK);
+    CHECK(run(&machine, 2).steps == 2);
+    CHECK(machine.channel.owner == 7 && machine.channel.clock == 230);
+
+    start(&machine, &small_setup);
+    machine.channel.ever = true;
+    CHECK(run(&machine, 1).steps == 1 && machine.channel.clock == 130);
+}
+
+/* Posts, taken and refused, and refused steps and runs leave the flag, whichever it is. */
+static void test_flag_is_left(void)
+{
+    static struct machine machine, before;
+    for (int ever = 0; ever < 2; ever++) {
+        start(&machine, &small_setup);
+        machine.channel.ever = ever != 0;
+        CHECK(post(&machine, 4, 0, 1, 4096, 1, 0) == MC_LEVEL_ABSENT);
+        CHECK(post(&machine, 3, 0, 1, 4096, 0, 0) == MC_BAD_NUMBER);
+        CHECK(post(&machine, 3, 0, 1, 4096, 1, 0) == MC_OK);
+        CHECK(post(&machine, 3, 0, 1, 4096, 1, 0) == MC_LEVEL_OPEN);
+        CHECK(post(&machine, 15, 0, 1, 4096, 1, 0) == MC_OK);
+        CHECK(machine.channel.ever == (ever != 0) && machine.channel.clock == 0);
+
+        before = machine;
+        struct mc_stores wrong = stores_of(&machine);
+        wrong.master_length++;
+        CHECK(mc_step(&machine.setup, &machine.channel, &wrong, &machine.tally, NULL)
+              == MC_STORE_DIFFERS);
+        CHECK(run(&machine, 65536).refusal == MC_TOO_MANY_STEPS);
+        CHECK(same_machine(&machine, &before));
+        machine.channel.left[15] = 4097;
+        CHECK(step(&machine, NULL) == MC_UNSOUND && machine.channel.ever == (ever != 0));
+        CHECK(run(&machine, 1).refusal == MC_UNSOUND && machine.channel.ever == (ever != 0));
+    }
+}
 
 /* A lingering burst of level 0, asked at its grant: its transfers, and its hold. */
 static void expect_linger(uint32_t port, uint32_t time, uint32_t transfers, int line)
@@ -220,10 +350,12 @@ static void expect_linger(uint32_t port, uint32_t time, uint32_t transfers, int 
     CHECK(post(&machine, 15, 1, 1, 8192, 4, 0) == MC_OK);
     CHECK(step(&machine, &entry) == MC_OK && entry.kind == MC_GRANT && entry.level == 0);
     CHECK(machine.channel.has_asked && machine.channel.asked == 100);
+    bool goes_on; /* a refused step leaves the entry as it was, and would go on for ever */
     do {
-        CHECK(step(&machine, &entry) == MC_OK && entry.kind == MC_CYCLE);
+        goes_on = step(&machine, &entry) == MC_OK && entry.kind == MC_CYCLE;
+        CHECK(goes_on);
         ended += (entry.address + entry.bytes) % 4 == 0;
-    } while (entry.ending == MC_KEPT && ended < 4096);
+    } while (goes_on && entry.ending == MC_KEPT && ended < 4096);
     check_that(ended == transfers, "transfers", line);
     check_that(entry.ending == MC_RELEASED && entry.has_hold && entry.hold == 7800, "hold", line);
     check_that(machine.tally.hold == 7800 && machine.tally.bytes == 4 * transfers, "tally", line);
@@ -236,18 +368,32 @@ static void test_linger(void)
     expect_linger(1, 1950, 1, __LINE__);
 }
 
-/* The limit is reached but not passed, by an arbitration and by a cycle. */
+/*
+ * The limit is reached but not passed, by an arbitration and by a cycle.  Before
+ * its first grant a sound channel has clock 0 and is far from it.
+ */
 static void test_clock_limit(void)
 {
     static struct machine machine, before;
     struct mc_entry entry;
 
-    start(&machine, &small_setup);
-    machine.channel.clock = MC_CLOCK_LIMIT - 99;
-    before = machine;
-    CHECK(step(&machine, &entry) == MC_CLOCK_FULL && same_machine(&machine, &before));
+    static const uint32_t too_near[] = {129, 101, 100, 99, 30, 0};
+    for (size_t i = 0; i < LENGTH(too_near); i++) {
+        start(&machine, &small_setup);
+        machine.channel.ever = true;
+        machine.channel.clock = MC_CLOCK_LIMIT - too_near[i];
+        before = machine;
+        CHECK(step(&machine, &entry) == MC_CLOCK_FULL && same_machine(&machine, &before));
+        struct mc_run_result none = run(&machine, 1);
+        CHECK(none.refusal == MC_CLOCK_FULL && none.steps == 0);
+        CHECK(same_machine(&machine, &before));
+    }
+    machine.channel.clock = MC_CLOCK_LIMIT - 130;
+    CHECK(step(&machine, &entry) == MC_OK && entry.clock == MC_CLOCK_LIMIT);
 
-    machine.channel.clock = MC_CLOCK_LIMIT - 300;
+    start(&machine, &small_setup);
+    machine.channel.ever = true;
+    machine.channel.clock = MC_CLOCK_LIMIT - 330;
     CHECK(post(&machine, 7, 1, 1, 4096, 4, 1) == MC_OK);
     CHECK(step(&machine, &entry) == MC_OK && entry.clock == MC_CLOCK_LIMIT - 200);
     CHECK(step(&machine, &entry) == MC_OK && entry.clock == MC_CLOCK_LIMIT);
@@ -257,7 +403,8 @@ static void test_clock_limit(void)
 
     /* An idle owner stays idle and gives way at the limit: no time passes. */
     start(&machine, &small_setup);
-    machine.channel.clock = MC_CLOCK_LIMIT - 100;
+    machine.channel.ever = true;
+    machine.channel.clock = MC_CLOCK_LIMIT - 130;
     struct mc_run_result result = run(&machine, 65535);
     CHECK(result.refusal == MC_OK && result.steps == 65535);
     CHECK(machine.channel.clock == MC_CLOCK_LIMIT && machine.tally.grants == 1);
@@ -410,12 +557,12 @@ static void test_unsound(void)
     CHANGED(marked, c->inactive |= 1 << 9, true);
     CHANGED(marked, c->inactive |= 1 << 15, true);
     CHANGED(marked, c->inactive |= 1 << 7, true); /* then nobody drives the line */
-    CHANGED(fresh, c->inactive = 1 << 3, true);
+    CHANGED(fresh, (c->ever = true, c->inactive = 1 << 3), true);
     CHANGED(owned, c->inactive = 1 << 7, true);
     CHANGED(asked, (set_slot(c, 9), c->inactive = 1 << 7), false);
-    CHANGED(fresh, c->clock = MC_CLOCK_LIMIT, false);
-    CHANGED(fresh, c->clock = MC_CLOCK_LIMIT + 1, true);
-    CHANGED(fresh, c->clock = UINT32_MAX, true);
+    CHANGED(fresh, (c->ever = true, c->clock = MC_CLOCK_LIMIT), false);
+    CHANGED(fresh, (c->ever = true, c->clock = MC_CLOCK_LIMIT + 1), true);
+    CHANGED(fresh, (c->ever = true, c->clock = UINT32_MAX), true);
     CHANGED(fresh, c->has_asked = true, true);
     CHANGED(marked, (c->has_asked = true, c->asked = c->clock), true);
     CHANGED(owned, (c->has_asked = true, c->asked = c->clock), true);
@@ -437,6 +584,31 @@ static void test_unsound(void)
     /* A request's last byte is a transfer of one cycle. */
     CHANGED(asked, (c->left[3] = 1, c->clock = 9000, c->asked = 9000 - 7600), false);
     CHANGED(asked, (c->clock = MC_CLOCK_LIMIT, c->asked = MC_CLOCK_LIMIT), false);
+
+    /* Never granted: each fault by itself, and the same channel where it has been. */
+    CHANGED(fresh, c->ever = true, false);
+    CHANGED(fresh, (c->phase = MC_GRANTED, c->owner = 15), true);
+    CHANGED(fresh, (c->phase = MC_GRANTED, c->owner = 15, c->ever = true), false);
+    CHANGED(fresh, (set_slot(c, 7), c->phase = MC_GRANTED, c->owner = 7), true);
+    CHANGED(fresh, (set_slot(c, 7), c->phase = MC_GRANTED, c->owner = 7, c->ever = true), false);
+    CHANGED(fresh, (set_slot(c, 7), c->inactive = 1 << 3), true);
+    CHANGED(fresh, (set_slot(c, 7), c->inactive = 1 << 3, c->ever = true), false);
+    CHANGED(fresh, (set_slot(c, 3), c->inactive = 1 << 7), true);
+    CHANGED(fresh, (set_slot(c, 3), c->inactive = 1 << 7, c->ever = true), false);
+    CHANGED(fresh, c->clock = 1, true);
+    CHANGED(fresh, (c->clock = 1, c->ever = true), false);
+    CHANGED(fresh, c->clock = 100, true);
+    CHANGED(fresh, c->clock = MC_CLOCK_LIMIT, true);
+    CHANGED(owned, c->ever = false, true);
+    CHANGED(asked, c->ever = false, true);
+    CHANGED(marked, c->ever = false, true);
+    CHANGED(idle, c->ever = false, true);
+    CHANGED(idle, (c->ever = false, c->clock = 0), true);
+    CHANGED(marked, (c->ever = false, c->clock = 0), true);
+    CHANGED(marked, (c->clock = 0), false);
+    /* Open requests are fine either way. */
+    CHANGED(fresh, (set_slot(c, 3), set_slot(c, 7), set_slot(c, 9), set_slot(c, 15)), false);
+    CHANGED(fresh, (set_slot(c, 3), set_slot(c, 15), c->ever = true), false);
 
     /* Of the layout. */
     CHANGED(fresh, c->phase = (enum mc_phase)2, true);
@@ -467,13 +639,13 @@ static const char example_log[] =
     "C 300 3 4097 1 1 1 1 0\n"
     "P 300 7 0\n"
     "C 500 3 4098 2 1 2 0 2\n"
-    "G 600 7\n"
-    "C 800 7 4096 2 0 0 0 2\n"
-    "G 900 3\n"
-    "C 1100 3 4100 2 1 0 0 0\n"
-    "C 1300 3 4102 2 1 2 0 1\n"
-    "G 1400 15\n"
-    "E 1400 9\n";
+    "G 630 7\n"
+    "C 830 7 4096 2 0 0 0 2\n"
+    "G 960 3\n"
+    "C 1160 3 4100 2 1 0 0 0\n"
+    "C 1360 3 4102 2 1 2 0 1\n"
+    "G 1490 15\n"
+    "E 1490 9\n";
 
 enum { SPARE = 3, UNTOUCHED = 0xA5 };
 
@@ -724,6 +896,7 @@ struct account {
     uint64_t moved[MC_LEVELS];
     struct mc_request last[MC_LEVELS]; /* the last accepted post of each level */
     uint64_t moved_of_last[MC_LEVELS];
+    bool granted; /* before or since the start */
     uint8_t slave[MC_STORE_MAX];
     uint8_t master[MC_STORE_MAX];
 };
@@ -784,9 +957,21 @@ static void follow_cycle(struct account *account, const struct mc_setup *setup,
     CHECK(entry->ending != MC_MARKED || ((level->options & MC_FAIR) != 0 && entry->has_hold));
 }
 
+/* The time of a step by its entry, and the flag. */
+static void follow_time(struct account *account, uint32_t clock, const struct mc_entry *entry)
+{
+    uint32_t time = entry->clock - clock;
+    if (entry->kind == MC_GRANT) {
+        CHECK(time == (account->granted ? 130 : 100));
+        account->granted = true;
+    } else
+        CHECK(account->granted && (entry->kind == MC_CYCLE || time == 0));
+}
+
 static void check_account(const struct account *account, const struct machine *machine)
 {
     CHECK(!mc_is_unsound(&machine->setup, &machine->channel));
+    CHECK(machine->channel.ever == account->granted);
     for (uint32_t level = 0; level < MC_LEVELS; level++)
         if (account->asked[level] != account->moved[level] + machine->channel.left[level])
             CHECK(false);
@@ -825,12 +1010,15 @@ static uint64_t random_steps(struct random *random, struct machine *machine,
             break;
         steps++;
         CHECK(entry.clock == machine->channel.clock && entry.clock >= clock);
+        follow_time(account, clock, &entry);
         if (entry.kind == MC_CYCLE)
             follow_cycle(account, &machine->setup, &entry);
         CHECK(!entry.has_hold || entry.hold <= MC_PREEMPT_TIME);
         check_account(account, machine);
     }
     CHECK(refusal == MC_OK || refusal == MC_CLOCK_FULL);
+    if (refusal == MC_CLOCK_FULL && machine->channel.phase == MC_ARBITRATING)
+        CHECK(account->granted && machine->channel.clock > MC_CLOCK_LIMIT - 130);
     CHECK(result.refusal == refusal && result.steps == steps);
     CHECK(same_machine(machine, &other));
     return steps;
@@ -849,9 +1037,11 @@ static void test_random(void)
         if (!mc_fits_frame(&setup))
             continue; /* the row moved to the end has met another there */
         start(&machine, &setup);
-        if (below(&random, 8) == 0)
+        machine.channel.ever = below(&random, 4) == 0;
+        if (machine.channel.ever && below(&random, 2) == 0)
             machine.channel.clock = MC_CLOCK_LIMIT - below(&random, 30000);
         memset(&account, 0, sizeof account);
+        account.granted = machine.channel.ever;
         memcpy(account.slave, machine.slave, sizeof account.slave);
         memcpy(account.master, machine.master, sizeof account.master);
         for (int event = 0; event < 40; event++) {
@@ -1026,7 +1216,7 @@ static void test_sheetrun(const char *program)
               "E 300 1\n",
               HEAD_BYTES, 4, 1, 0xFF, 0xFF, 0xFF, 0xFF, 0x0F, 0, 0, 0, 0, 0, 0, 3, 1, 15, 0, 1, 0,
               1, 0, 0, 1);
-    SHEET_LOG("G 100 15\nP 100 3 0\nR 100 15\nG 200 3\nE 200 0\n", 1, 2, 3, 4, 0, 15, 4, 0, 1, 1,
+    SHEET_LOG("G 100 15\nP 100 3 0\nR 100 15\nG 230 3\nE 230 0\n", 1, 2, 3, 4, 0, 15, 4, 0, 1, 1,
               0, 16, 2, 0xC8, 0x01, 3, 0, 1, 1, 3, 0, 1, 0, 4, 0, 0, 2);
 }
 
@@ -1119,6 +1309,9 @@ int main(int argc, char **argv)
     test_cycle_count();
     test_post();
     test_asked_at_zero();
+    test_arbitration_time();
+    test_arbitration_time_of_runs();
+    test_flag_is_left();
     test_linger();
     test_clock_limit();
     test_run_refusals();
