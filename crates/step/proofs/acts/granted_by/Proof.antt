@@ -5,7 +5,12 @@ use Rattle.step.proofs.acts.granted_by.Tie as tie
 
 returns : tie.Need-returns
 unfolding grantedBy
-returns c = rw (c .before .asked-if .ensures, c .before .before .before .arbitration-time .ensures, c .add-grant .ensures)
+returns c =
+    rw (
+      c .before .asked-if .ensures,
+      c .before .before .before .arbitration-time .ensures,
+      c .add-grant .ensures,
+    )
 
 pub granted-by-spec : {M : Type 1} → statement M
 granted-by-spec =
