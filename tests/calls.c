@@ -919,7 +919,7 @@ static void put_request(struct mc_channel *channel, const struct mc_request *req
 /* Any channel that looks sound: the asked time may be too early for the owner's transfer. */
 static struct mc_channel draw_channel(void)
 {
-    bool is_early = one_in(4);
+    bool is_early = one_in(3);
     struct mc_channel channel = {.ever = true, .clock = is_early ? 0 : one_in(3) ? below(10000) : any() % MC_CLOCK_LIMIT};
     for (uint32_t posts = below(6); posts > 0; posts--) {
         struct mc_request request = draw_good_request();
@@ -958,7 +958,7 @@ static void spoil_channel(struct mc_channel *channel)
         level = below(MC_LEVELS);
     uint32_t *fields[] = {&channel->direction[level], &channel->space[level], &channel->address[level], &channel->left[level],
                           &channel->offset[level]};
-    uint32_t draw = below(12);
+    uint32_t draw = below(16);
     if (draw < LENGTH(fields) && channel->left[level] != 0)
         *fields[draw] = draw_odd(*fields[draw]);
     else if (draw == 5)
@@ -995,11 +995,11 @@ static void spoil_setup(void)
 /* A channel that is unsound because it was never granted, and for nothing else: by which of the three it is. */
 static void see_never_granted(void)
 {
-    struct mc_channel before = theirs.channel;
-    before.ever = true;
-    if (!mc_fits_frame(&theirs.setup) || mc_is_unsound(&theirs.setup, &before))
+    struct mc_channel granted = theirs.channel;
+    granted.ever = true;
+    if (!mc_fits_frame(&theirs.setup) || mc_is_unsound(&theirs.setup, &granted))
         return;
-    bool is_owned = before.phase == MC_GRANTED, is_marked = before.inactive != 0, is_later = before.clock != 0;
+    bool is_owned = granted.phase == MC_GRANTED, is_marked = granted.inactive != 0, is_later = granted.clock != 0;
     if (!theirs.channel.ever && is_owned + is_marked + is_later == 1)
         met.sights[is_owned ? NEVER_AND_OWNED : is_marked ? NEVER_AND_MARKED : NEVER_AND_LATER]++;
     met.sights[GRANTED_AT_0] += theirs.channel.ever && !is_owned && !is_later;
