@@ -17,7 +17,8 @@ use Rattle.channel.specs.Line.{line, clearMarks, setAsked, lineRule}
 
 -- equal fields, equal channels
 pub same-channel : (a b : Channel) → a .phase ≡ b .phase → a .asked ≡ b .asked → a .ever ≡ b .ever → a .clock ≡ b .clock
-    → a .inactive ≡ b .inactive → a .direction ≡ b .direction → a .space ≡ b .space → a .address ≡ b .address → a .left ≡ b .left → a .offset ≡ b .offset → a ≡ b
+    → a .inactive ≡ b .inactive → a .direction ≡ b .direction → a .space ≡ b .space → a .address ≡ b .address → a .left ≡ b .left
+    → a .offset ≡ b .offset → a ≡ b
 same-channel a b phase asked ever clock inactive direction space address left offset =
     λ i. record {
       phase = phase i;

@@ -245,3 +245,10 @@ module _ (setup : Setup) (ch : Channel) where
         le-leb (ch .clock) clockLimit (s .settled .clock),
       )
       (asked-by s (ch .phase) (ch .asked) refl refl)
+
+-- whoever is granted has been granted
+pub granted-ever : (setup : Setup) (ch : Channel) → Sound setup ch → (o : ℕ) → ch .phase ≡ Granted o → ch .ever ≡ true
+granted-ever setup ch s o e =
+    by-test (ch .ever)
+    (λ t. t)
+    (λ f. let n = s .settled .never f .phase in let z : _≡_ {A = ℕ} 0 1 = cc in absurd (omega arith))

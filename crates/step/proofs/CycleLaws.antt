@@ -1,7 +1,7 @@
 -- The cycles of one owner are steps of the run.
 use Prim.Native.Nat.{ℕ, zero, suc, _+_, _-_, _<_}
 use mathlib.Core.Path.{_≡_, refl, sym, ap, subst, _∙_}
-use mathlib.Core.Bool.{true, false, not, cond}
+use mathlib.Core.Bool.{Bool, true, false, not, cond}
 use mathlib.Core.List.{List}
 use native.Mathlib.Omega.{arith}
 use borrow.Author.Tests.{ne-eqb}
@@ -19,7 +19,7 @@ use Rattle.channel.specs.declared.Request.{Request}
 use Rattle.channel.specs.Channel.{ownerPlace, hasRequest, requestOf, withRequest, changed, Shaped}
 use Rattle.channel.specs.Line.{isInactive}
 use Rattle.channel.proofs.RequestLaws.{same-channel, request-same, with-shaped}
-use Rattle.sound.proofs.SoundFacts.{sound-is}
+use Rattle.sound.proofs.SoundFacts.{sound-is, granted-ever}
 use Rattle.act.specs.declared.Route.{Route}
 use Rattle.act.specs.declared.Ending.{Ending}
 use Rattle.act.specs.declared.Ending.the-variants.{Kept}
@@ -49,7 +49,7 @@ moved-twice ch o k c q p =
 
 -- a cycle that was decided, put back into the channel
 module _ (route : Route) (w : Running) (o : ℕ) (phase : w .channel .phase ≡ Granted o)
-    (active : isInactive (w .channel .inactive) o ≡ false) (q : Request) where
+    (before : w .channel .ever ≡ true) (active : isInactive (w .channel .inactive) o ≡ false) (q : Request) where
   abbrev ends : Ending
   ends = endingOf route (w .channel .asked) (w .channel .clock + route .time) (cycleOf route q)
 
@@ -59,6 +59,13 @@ module _ (route : Route) (w : Running) (o : ℕ) (phase : w .channel .phase ≡ 
   unfolding cycleDecided cycleActed standingAfter cycleMarks
   cycle-channel =
       ap
+      (λ (ever : Bool).
+      withRequest
+      (changed (w .channel) (cond (isKept ends) (w .channel .phase) Arbitrating) (cond (isKept ends) (w .channel .asked) Never)
+      ever (w .channel .clock + route .time) (set (w .channel .inactive) o (isMarked ends)))
+      (ownerPlace (w .channel .phase)) (cycleOf route q .rest))
+      (sym before)
+      ∙ ap
       (λ (i : ℕ).
       withRequest
       (changed (w .channel) (cond (isKept ends) (w .channel .phase) Arbitrating) (cond (isKept ends) (w .channel .asked) Never)
@@ -137,6 +144,9 @@ module _ (setup : Setup) (budget : ℕ) (ch : Channel) (shaped : Shaped ch) (o :
     active : isInactive (movedTo t .inactive) o ≡ false
     active = sound-is setup (movedTo t) (g .ready .sound) .settled .owner o (to-phase t .0) .active
 
+    granted-yet : movedTo t .ever ≡ true
+    granted-yet = granted-ever setup (movedTo t) (sound-is setup (movedTo t) (g .ready .sound)) o (to-phase t .0)
+
     abbrev request : Request
     request = requestOf (movedTo t) (ownerPlace (movedTo t .phase))
 
@@ -151,7 +161,7 @@ module _ (setup : Setup) (budget : ℕ) (ch : Channel) (shaped : Shaped ch) (o :
         ≡ afterHeld ch o (heldOf (filled t) slave master)
     unfolding filled
     full-is full =
-        let x = decides-late route (standingOf (movedTo t) (t .tally)) request (movedTo t .left) (movedTo t .inactive) o
+        let x = decides-late route (standingOf (movedTo t) (t .tally)) (movedTo t .ever) request (movedTo t .left) (movedTo t .inactive) o
         (to-phase t .0) request-some _
         (limit ∙ full) refl in
         sym (stays-full route (midst t slave master) (fullActed (standingOf (movedTo t) (t .tally))) (movedTo t .inactive) (x .0)
@@ -164,10 +174,10 @@ module _ (setup : Setup) (budget : ℕ) (ch : Channel) (shaped : Shaped ch) (o :
         (movedMaster (carryOf route (t .request)) slave master))
     unfolding stepRun cycleOn
     cycle-is room =
-        let x = decides-cycle route (standingOf (movedTo t) (t .tally)) request (movedTo t .left) (movedTo t .inactive) o
+        let x = decides-cycle route (standingOf (movedTo t) (t .tally)) (movedTo t .ever) request (movedTo t .left) (movedTo t .inactive) o
         (to-phase t .0) request-some _ _
         (limit ∙ room) refl refl in
-        let run = cycle-run route (midst t slave master) o (to-phase t .0) active (t .request) in
+        let run = cycle-run route (midst t slave master) o (to-phase t .0) granted-yet active (t .request) in
         let once = moved-twice ch o (t .clock) (movedTo t .clock + route .time) (t .request) (cycleOf route (t .request) .rest) in
         rw (← x .0, ← x .1, here-request t, run, once, to-phase t .1, to-phase t .2)
 

@@ -35,26 +35,26 @@ pub from-first : (left : List ℕ) (inactive : List Bool) → Search left inacti
 from-first left inactive =
     record { most = omega arith; small = omega arith; none = λ l h. absurd (omega (arith, h)); clear = λ l h. absurd (omega (arith, h)) }
 
-module _ (route : Route) (s : Standing) (q : Request) (left : List ℕ) (inactive : List Bool) where
+module _ (route : Route) (s : Standing) (ever : Bool) (q : Request) (left : List ℕ) (inactive : List Bool) where
   abbrev Right : Decided → List Bool → Type 0
-  Right d marks = (d ≡ decidedOf route s q left inactive) × (marks ≡ decidedMarks route s q left inactive)
+  Right d marks = (d ≡ decidedOf route s ever q left inactive) × (marks ≡ decidedMarks route s ever q left inactive)
 
-  by-phase : (p : Phase) → s .phase ≡ p → (d : Decided) (marks : List Bool) → d ≡ decidedBy route s q left inactive p
-      → marks ≡ marksBy route s q left inactive p → Right d marks
+  by-phase : (p : Phase) → s .phase ≡ p → (d : Decided) (marks : List Bool) → d ≡ decidedBy route s ever q left inactive p
+      → marks ≡ marksBy route s ever q left inactive p → Right d marks
   unfolding decidedOf decidedMarks
-  by-phase p e d marks a b = (a ∙ ap (decidedBy route s q left inactive) (sym e), b ∙ ap (marksBy route s q left inactive) (sym e))
+  by-phase p e d marks a b = (a ∙ ap (decidedBy route s ever q left inactive) (sym e), b ∙ ap (marksBy route s ever q left inactive) (sym e))
 
   module _ (e : s .phase ≡ Arbitrating) where
-    pub decides-full : (d : Decided) → ltb clockLimit (s .clock + arbitrationTime (s .ever)) ≡ true → d ≡ stayOf (fullActed s) q → Right d inactive
+    pub decides-full : (d : Decided) → ltb clockLimit (s .clock + arbitrationTime ever) ≡ true → d ≡ stayOf (fullActed s) q → Right d inactive
     decides-full d t a = by-phase Arbitrating e d inactive (a ∙ rw t) (rw t)
 
-    pub decides-grant : (d : Decided) (marks : List Bool) (base : ℕ) (c : Chosen) → ltb clockLimit (s .clock + arbitrationTime (s .ever)) ≡ false
-        → IsChosen left inactive marks base c → d ≡ stayOf (grantedBy s (c .winner) (c .active)) q → Right d marks
+    pub decides-grant : (d : Decided) (marks : List Bool) (base : ℕ) (c : Chosen) → ltb clockLimit (s .clock + arbitrationTime ever) ≡ false
+        → IsChosen left inactive marks base c → d ≡ stayOf (grantedBy s ever (c .winner) (c .active)) q → Right d marks
     decides-grant d marks base c f x a =
         by-phase Arbitrating e d marks
         (a
-        ∙ ap₂ (λ (w : ℕ) (active : Bool). stayOf (grantedBy s w active) q) (x .won) (x .active)
-        ∙ ap (λ (m : List Bool). stayOf (grantedBy s (winner left inactive) (lineActive left m (Granted (winner left inactive)))) q)
+        ∙ ap₂ (λ (w : ℕ) (active : Bool). stayOf (grantedBy s ever w active) q) (x .won) (x .active)
+        ∙ ap (λ (m : List Bool). stayOf (grantedBy s ever (winner left inactive) (lineActive left m (Granted (winner left inactive)))) q)
         (x .marks)
         ∙ rw f)
         (x .marks ∙ rw f)

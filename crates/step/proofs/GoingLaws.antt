@@ -77,9 +77,9 @@ runs-on setup budget routes first w later g t =
       least = t .least;
     }
 
-pub runs-first : (setup : Setup) (budget : ℕ) (routes : List Route) (first : Running) → first .done ≡ 0 → Going setup routes first
+pub runs-first : (setup : Setup) (budget : ℕ) (routes : List Route) (first : Running) → first .done ≤ budget → Going setup routes first
     → Runs setup budget routes first first
-runs-first setup budget routes first z g = record { going = g; same = refl; least = omega (arith, z) }
+runs-first setup budget routes first least g = record { going = g; same = refl; least = least }
 
 module _ (setup : Setup) (routes : List Route) (w : Running) (g : Going setup routes w) where
   abbrev route : Route

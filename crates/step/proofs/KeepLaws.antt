@@ -31,7 +31,7 @@ use Rattle.frame.specs.Rows.{isPresent, levelOf, hasBurst, isFair, hasLinger}
 use Rattle.channel.specs.Slave.{slaveOf, startOf}
 use Rattle.sound.specs.Request.{requestVerdict}
 use Rattle.sound.specs.Sound.{isBlank, isInTime}
-use Rattle.sound.proofs.SoundFacts.{Grant as MayOwn, InTime, Settled, Sound}
+use Rattle.sound.proofs.SoundFacts.{Grant as MayOwn, InTime, Settled, Sound, granted-ever}
 use Rattle.sound.proofs.RuleLaws.{rule-sound}
 use Rattle.sound.proofs.RequestFacts.{Fits, fits-is, fits-by}
 use Rattle.act.specs.declared.Route.{Route}
@@ -185,7 +185,7 @@ module _ (setup : Setup) (framed : isFramed setup ≡ true) (ch : Channel) (shap
 
   -- it has been granted before
   granted-before : {A : Type 0} → ch .ever ≡ false → A
-  granted-before e = let n = s .settled .never e .phase in let z : _≡_ {A = ℕ} 0 1 = cc in absurd (omega arith)
+  granted-before e = absurd (false≢true (sym e ∙ granted-ever setup ch s o phase))
 
   -- the requests afterwards
   pub here : (m : ℕ) → m ≡ o → requestOf (movedAt setup ch o) m ≡ restAt setup ch o

@@ -16,4 +16,5 @@ pub mod PutLaws
 pub mod TurnLaws
 pub mod CycleLaws
 pub mod GoingLaws
+pub mod BeginLaws
 pub mod LogLaws

@@ -1,12 +1,12 @@
 -- A logged run: a step of it and its line are those of the definitions.
 use Prim.Native.Nat.{ℕ, _+_, _-_, _≤_, _<_}
 use mathlib.Core.Path.{_≡_, refl, sym, ap, _∙_}
-use mathlib.Core.Bool.{Bool, true, false, not, _&&_}
+use mathlib.Core.Bool.{Bool, true, false, not, _&&_, _||_}
 use mathlib.Core.Logic.{_⊎_, inl, inr}
 use mathlib.Core.List.{List}
 use native.Mathlib.Nat.{sub-zero}
 use native.Mathlib.Omega.{arith}
-use borrow.Author.Tests.{ltb-true, ltb-false, not-true}
+use borrow.Author.Tests.{lt-ltb, ltb-true, ltb-false, not-true}
 use lib.ListN.{length, getD, set}
 use lib.Dec.{ltb}
 use Rattle.basics.proofs.Tests.{by-test, and-left, and-right}
@@ -60,14 +60,18 @@ log-once setup budget w later p (NotDone why) f h room s =
     let x = s .stopped why refl in
     rw (f, s .full, s .done, x .1) (sym (log-stop setup budget (w .done) (worldOf w) h p why room (s .told) ∙ rw (x .0)))
 
+-- after a step that was done the channel has been granted
+done-one : (first : Bool) (done : ℕ) → (ltb 0 (done + 1) || first) ≡ true
+done-one first done = rw (lt-ltb 0 (done + 1) (omega arith))
+
 -- a step put back into the arrays, from what the calls said
-module _ (route : Route) (log : Log) (inactive : List Bool) (direction space address left offset slave master out : List ℕ) (place : ℕ)
+module _ (route : Route) (log : Log) (first : Bool) (inactive : List Bool) (direction space address left offset slave master out : List ℕ) (place : ℕ)
     (here : place ≡ ownerPlace (log .standing .phase)) (q : Request) (request : q ≡ requestAt direction space address left offset place)
-    (d : Decided) (marks : List Bool) (e : d ≡ decidedOf route (log .standing) q left inactive)
-    (m : marks ≡ decidedMarks route (log .standing) q left inactive) (slaves masters : List ℕ)
+    (d : Decided) (marks : List Bool) (e : d ≡ decidedOf route (log .standing) (ltb 0 (log .done) || first) q left inactive)
+    (m : marks ≡ decidedMarks route (log .standing) (ltb 0 (log .done) || first) q left inactive) (slaves masters : List ℕ)
     (moved : (slaves ≡ movedSlave (d .carry) slave master) × (masters ≡ movedMaster (d .carry) slave master)) where
   abbrev was : Logging
-  was = loggingOf log inactive direction space address left offset slave master out
+  was = loggingOf log first inactive direction space address left offset slave master out
 
   decided-is : d ≡ decidedIn route (was .running .channel) (was .running .tally)
   decided-is = e ∙ rw (request, here)
@@ -77,14 +81,14 @@ module _ (route : Route) (log : Log) (inactive : List Bool) (direction space add
 
   abbrev put : Log → List ℕ → Logging
   put next page =
-      loggingOf next marks (set direction place (d .slot .direction)) (set space place (d .slot .space))
+      loggingOf next first marks (set direction place (d .slot .direction)) (set space place (d .slot .space))
       (set address place (d .slot .address)) (set left place (d .slot .left)) (set offset place (d .slot .offset)) slaves masters page
 
   pub log-done : (entry : Entry) (at : ℕ) (page : List ℕ) → d .acted .answer ≡ Done entry → at ≡ placeAfter out (log .at) (entryText entry)
       → page ≡ outAfter out (log .at) (entryText entry)
       → put (record { standing = d .acted .standing; done = log .done + 1; full = false; at = at }) page ≡ logStep route was
   unfolding logStep stepRun withRequest pageAfter
-  log-done entry at page a b c = rw (← decided-is, ← marks-is, a, b, c, moved .0, moved .1, here)
+  log-done entry at page a b c = rw (← decided-is, ← marks-is, a, b, c, moved .0, moved .1, here, done-one first (log .done))
 
   pub log-full : (why : Refusal) → d .acted .answer ≡ NotDone why
       → put (record { standing = d .acted .standing; done = log .done; full = true; at = log .at }) out ≡ logStep route was
@@ -98,7 +102,7 @@ acts-at route w l place here q request = rw (request, here) (l .acts)
 
 pub room-at : (route : Route) (w : Running) → Loggable route w → (place : ℕ) → place ≡ ownerPlace (w .channel .phase) → (q : Request)
     → q ≡ requestOf (w .channel) place → (d : Decided)
-    → d ≡ decidedOf route (standingOf (w .channel) (w .tally)) q (w .channel .left) (w .channel .inactive)
+    → d ≡ decidedOf route (standingOf (w .channel) (w .tally)) (w .channel .ever) q (w .channel .left) (w .channel .inactive)
     → Room (d .carry) (length (w .slave)) (length (w .master))
 room-at route w l place here q request d e = rw (e, request, here) (l .room)
 

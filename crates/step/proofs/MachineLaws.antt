@@ -20,7 +20,7 @@ use Rattle.channel.specs.declared.Request.{Request}
 use Rattle.channel.specs.Channel.{ownerPlace, requestOf, withRequest, changed, Shaped}
 use Rattle.channel.specs.Line.{isInactive, clearMarks, setAsked, line, lineActive, winner}
 use Rattle.channel.proofs.RequestLaws.{same-channel}
-use Rattle.sound.proofs.SoundFacts.{Sound, sound-is}
+use Rattle.sound.proofs.SoundFacts.{Sound, sound-is, granted-ever}
 use Rattle.act.specs.declared.Route.{Route}
 use Rattle.act.specs.declared.Ending.{Ending}
 use Rattle.act.specs.declared.Ending.the-variants.{Kept, Released, Marked}
@@ -33,7 +33,10 @@ use Rattle.step.specs.declared.acts.Decided.{Decided}
 use Rattle.step.specs.Plan.{ownerPlan, requestPlan, phasePlan, actPlan}
 use Rattle.step.specs.declared.Plan.the-variants as plan
 use Rattle.step.specs.Step.{Ready, advancedBy, tallied, noCarry, carryBy}
+use Rattle.step.specs.declared.StepAnswer.{StepAnswer}
+use Rattle.step.specs.declared.StepAnswer.the-variants.{Done, Refused as NotDone}
 use Rattle.step.specs.inner.Machine.{
+  everBy,
   standingOf,
   marksLeft,
   grantMarks,
@@ -58,6 +61,11 @@ use Rattle.step.specs.inner.Turns.{decidedIn, marksIn}
 use Rattle.step.proofs.PlanLaws.{roomy}
 use Rattle.step.proofs.KeepLaws.{routeAt, nextCycle}
 use Rattle.step.proofs.QuietLaws.{cycle-quiet, leave-quiet}
+
+-- once granted, a channel stays so
+pub ever-stays : (answer : StepAnswer) (ever : Bool) → ever ≡ true → everBy answer ever ≡ ever
+ever-stays (Done e) ever t = sym t
+ever-stays (NotDone why) ever t = refl
 
 -- a request put back as it is
 pub put-same : (ch : Channel) (l : ℕ) → withRequest ch l (requestOf ch l) ≡ ch
@@ -88,15 +96,15 @@ module _ (setup : Setup) (ch : Channel) (t : Tally) (s m : ℕ) (r : Ready setup
   sound = sound-is setup ch (r .sound)
 
   abbrev decidedAt : Route → Phase → Decided
-  decidedAt route p = decidedBy route (standingOf ch t) (requestOf ch (ownerPlace p)) (ch .left) (ch .inactive) p
+  decidedAt route p = decidedBy route (standingOf ch t) (ch .ever) (requestOf ch (ownerPlace p)) (ch .left) (ch .inactive) p
 
-  abbrev steppedAt : Route → Phase → Stepped
-  steppedAt route p =
+  abbrev steppedAt : Route → Phase → Bool → Stepped
+  steppedAt route p ever =
       record {
         channel =
             withRequest
             (changed ch (decidedAt route p .acted .standing .phase) (decidedAt route p .acted .standing .asked)
-            (decidedAt route p .acted .standing .ever) (decidedAt route p .acted .standing .clock) (marksBy route (standingOf ch t) (requestOf ch (ownerPlace p)) (ch .left)
+            ever (decidedAt route p .acted .standing .clock) (marksBy route (standingOf ch t) (ch .ever) (requestOf ch (ownerPlace p)) (ch .left)
             (ch .inactive) p))
             (ownerPlace p)
             (decidedAt route p .slot);
@@ -104,9 +112,9 @@ module _ (setup : Setup) (ch : Channel) (t : Tally) (s m : ℕ) (r : Ready setup
         answer = decidedAt route p .acted .answer;
       }
 
-  -- a step of this phase comes to this plan
-  abbrev Comes : Route → Phase → Plan → Type 0
-  Comes route p plan = (steppedAt route p ≡ tallied t (advancedBy setup ch plan)) × (decidedAt route p .carry ≡ carryBy setup ch plan)
+  -- a step of this phase, after which the channel has been granted or not, comes to this plan
+  abbrev Comes : Route → Phase → Bool → Plan → Type 0
+  Comes route p ever plan = (steppedAt route p ever ≡ tallied t (advancedBy setup ch plan)) × (decidedAt route p .carry ≡ carryBy setup ch plan)
 
   -- an arbitration: the clock is full, or the winner is granted
   abbrev wins : ℕ
@@ -118,7 +126,7 @@ module _ (setup : Setup) (ch : Channel) (t : Tally) (s m : ℕ) (r : Ready setup
       (cond (lineActive (ch .left) (grantMarks (ch .left) (ch .inactive)) (Granted wins)) (At (grantClock ch)) Never) true (grantClock ch)
       (grantMarks (ch .left) (ch .inactive))
 
-  arbitrating : Comes route Arbitrating (phasePlan setup ch Arbitrating)
+  arbitrating : Comes route Arbitrating (everBy (decidedAt route Arbitrating .acted .answer) (ch .ever)) (phasePlan setup ch Arbitrating)
   unfolding fullActed grantedBy marksLeft grantTurn granted clearMarks setAsked
   arbitrating =
       by-test (ltb clockLimit (grantClock ch))
@@ -131,7 +139,7 @@ module _ (setup : Setup) (ch : Channel) (t : Tally) (s m : ℕ) (r : Ready setup
         channel =
             withRequest
             (changed ch (restActed asked (standingOf ch t) o .standing .phase) (restActed asked (standingOf ch t) o .standing .asked)
-            (restActed asked (standingOf ch t) o .standing .ever) (restActed asked (standingOf ch t) o .standing .clock) (ch .inactive)) o (requestOf ch o);
+            (ch .ever) (restActed asked (standingOf ch t) o .standing .clock) (ch .inactive)) o (requestOf ch o);
         tally = restActed asked (standingOf ch t) o .standing .tally;
         answer = restActed asked (standingOf ch t) o .answer;
       }
@@ -147,7 +155,7 @@ module _ (setup : Setup) (ch : Channel) (t : Tally) (s m : ℕ) (r : Ready setup
 
   -- an owner's cycle
   cycling : (o : ℕ) → ch .phase ≡ Granted o → eqb (getD (ch .left) o 0) 0 ≡ false
-      → Comes (routeOf setup o (requestOf ch o)) (Granted o) (requestPlan setup ch o (requestOf ch o))
+      → Comes (routeOf setup o (requestOf ch o)) (Granted o) (ch .ever) (requestPlan setup ch o (requestOf ch o))
   unfolding fullActed routeOf cycleOf cycleDecided cycleActed standingAfter cycleMarks movedOn cycleEntry cycleTurn
   cycling o e n =
       by-test (ltb clockLimit (ch .clock + nextCycle setup ch o .time))
@@ -158,13 +166,14 @@ module _ (setup : Setup) (ch : Channel) (t : Tally) (s m : ℕ) (r : Ready setup
       let put = put-ended ch o (sound .settled .owner o e .active) (endingAt (routeAt setup ch o) ch c) (ch .clock + c .time) (c .rest) in
       (rw (n, room, quiet, put), rw (n, room)))
 
-  pub made-phase : (p : Phase) → ch .phase ≡ p → Comes route p (phasePlan setup ch p)
+  pub made-phase : (p : Phase) → ch .phase ≡ p → Comes route p (everBy (decidedAt route p .acted .answer) (ch .ever)) (phasePlan setup ch p)
   unfolding ownerPlan
   made-phase Arbitrating e = arbitrating
   made-phase (Granted o) e =
-      by-test (eqb (getD (ch .left) o 0) 0)
+      rw (ever-stays (decidedAt route (Granted o) .acted .answer) (ch .ever) (granted-ever setup ch sound o e))
+      (by-test (eqb (getD (ch .left) o 0) 0)
       (λ z. rw z (resting o e (ch .asked) refl))
-      (λ n. rw (way o e n) (cycling o e n))
+      (λ n. rw (way o e n) (cycling o e n)))
 
   pub made : (steppedBy ch (decidedIn route ch t) (marksIn route ch t) ≡ tallied t (advancedBy setup ch (actPlan setup ch)))
       × (decidedIn route ch t .carry ≡ carryBy setup ch (actPlan setup ch))
@@ -204,9 +213,10 @@ module _ (setup : Setup) (ch : Channel) (t : Tally) (s m : ℕ) (r : Ready setup
     actable = rw (request, place) (actable-by setup ch t s m r route route-is)
 
     pub decision-made : (d : Decided) (marks : List Bool) (after : Channel) → d
-        ≡ decidedOf route (standingOf ch t) q (ch .left) (ch .inactive)
-        → marks ≡ decidedMarks route (standingOf ch t) q (ch .left) (ch .inactive)
-        → after ≡ channelOf (d .acted .standing) marks (set (ch .direction) at (d .slot .direction)) (set (ch .space) at (d .slot .space))
+        ≡ decidedOf route (standingOf ch t) (ch .ever) q (ch .left) (ch .inactive)
+        → marks ≡ decidedMarks route (standingOf ch t) (ch .ever) q (ch .left) (ch .inactive)
+        → after ≡ channelOf (d .acted .standing) (everBy (d .acted .answer) (ch .ever)) marks (set (ch .direction) at (d .slot .direction))
+        (set (ch .space) at (d .slot .space))
         (set (ch .address) at (d .slot .address)) (set (ch .left) at (d .slot .left)) (set (ch .offset) at (d .slot .offset))
         → record { stepped = record { channel = after; tally = d .acted .standing .tally; answer = d .acted .answer }; carry = d .carry }
         ≡ decisionBy setup ch t (actPlan setup ch)

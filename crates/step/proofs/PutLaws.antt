@@ -66,12 +66,12 @@ use Rattle.step.proofs.MachineLaws.{put-same, put-ended}
 module _ (s : State) (inactive : List Bool) (direction space address left offset : List ℕ) (o : ℕ)
     (active : isInactive inactive o ≡ false) where
   abbrev was : Channel
-  was = channelOf (s .standing) inactive direction space address left offset
+  was = channelOf (s .standing) true inactive direction space address left offset
 
   pub put-back : (h : Held) (t : Tenure) (next : Standing) (mark : Bool) (slave master : List ℕ) (low : ℕ) → t ≡ h .tenure
       → next ≡ standingAfter (s .standing) (t .clock) (t .tally) (t .ending) → mark ≡ isMarked (t .ending) → slave ≡ h .slave → master
       ≡ h .master
-      → runningOf (record { standing = next; done = t .done; full = t .full; low = low }) (set inactive o mark)
+      → runningOf (record { standing = next; done = t .done; full = t .full; low = low }) true (set inactive o mark)
       (set direction o (t .request .direction)) (set space o (t .request .space)) (set address o (t .request .address))
       (set left o (t .request .left)) (set offset o (t .request .offset)) slave master
       ≡ afterHeld was o h
@@ -95,7 +95,7 @@ module _ (route : Route) (w : Running) (a : Acted) (marks : List Bool)
     (d : stayOf a (requestOf (w .channel) (ownerPlace (w .channel .phase))) ≡ decidedIn route (w .channel) (w .tally))
     (m : marks ≡ marksIn route (w .channel) (w .tally)) where
   abbrev left-as : Channel
-  left-as = changed (w .channel) (a .standing .phase) (a .standing .asked) (a .standing .ever) (a .standing .clock) marks
+  left-as = changed (w .channel) (a .standing .phase) (a .standing .asked) true (a .standing .clock) marks
 
   pub stays-done : (e : Entry) → a .answer ≡ Done e
       → record { channel = left-as; tally = a .standing .tally; done = w .done + 1; full = false; slave = w .slave; master = w .master }
@@ -119,31 +119,31 @@ rests Never s o = (_, refl)
 rests (At t) s o = (_, refl)
 
 -- each kind of turn, from what its calls said
-module _ (route : Route) (budget : ℕ) (s : State) (inactive : List Bool) (direction space address left offset slave master : List ℕ) where
+module _ (route : Route) (budget : ℕ) (s : State) (ever : Bool) (inactive : List Bool) (direction space address left offset slave master : List ℕ) where
   abbrev before : Running
-  before = runningOf s inactive direction space address left offset slave master
+  before = runningOf s ever inactive direction space address left offset slave master
 
   module _ (p : s .standing .phase ≡ Arbitrating) where
     arbitrates : stepRun route before ≡ turnOf route budget before
     unfolding turnOf
     arbitrates = sym (ap (turnBy route budget before) p)
 
-    pub turn-full : (low : ℕ) → ltb clockLimit (s .standing .clock + arbitrationTime (s .standing .ever)) ≡ true
-        → runningOf (record { standing = s .standing; done = s .done; full = true; low = low }) inactive direction space address left
+    pub turn-full : (low : ℕ) → ltb clockLimit (s .standing .clock + arbitrationTime ever) ≡ true
+        → runningOf (record { standing = s .standing; done = s .done; full = true; low = low }) ever inactive direction space address left
         offset slave master
         ≡ turnOf route budget before
     turn-full low t =
-        let x = decides-full route (s .standing) (requestOf (before .channel) (ownerPlace (s .standing .phase))) left inactive p _ t refl in
+        let x = decides-full route (s .standing) ever (requestOf (before .channel) (ownerPlace (s .standing .phase))) left inactive p _ t refl in
         stays-full route before (fullActed (s .standing)) inactive (x .0) (x .1) refl refl ∙ arbitrates
 
     pub turn-grant : (r : State) (a : Acted) (marks : List Bool) (base : ℕ) (c : Chosen)
-        → ltb clockLimit (s .standing .clock + arbitrationTime (s .standing .ever)) ≡ false → IsChosen left inactive marks base c
-        → a ≡ grantedBy (s .standing) (c .winner) (c .active) → r ≡ steppedOn a (s .done) (c .low)
-        → runningOf r marks direction space address left offset slave master ≡ turnOf route budget before
+        → ltb clockLimit (s .standing .clock + arbitrationTime ever) ≡ false → IsChosen left inactive marks base c
+        → a ≡ grantedBy (s .standing) ever (c .winner) (c .active) → r ≡ steppedOn a (s .done) (c .low)
+        → runningOf r true marks direction space address left offset slave master ≡ turnOf route budget before
     unfolding grantedBy
     turn-grant r a marks base c f i g e =
-        let b = grantedBy (s .standing) (c .winner) (c .active) in
-        let x = decides-grant route (s .standing) (requestOf (before .channel) (ownerPlace (s .standing .phase))) left inactive p _ marks base
+        let b = grantedBy (s .standing) ever (c .winner) (c .active) in
+        let x = decides-grant route (s .standing) ever (requestOf (before .channel) (ownerPlace (s .standing .phase))) left inactive p _ marks base
         c f i refl in
         rw (e, g) (stays-done route before b marks (x .0) (x .1) _ refl) ∙ arbitrates
 
@@ -153,11 +153,11 @@ module _ (route : Route) (budget : ℕ) (s : State) (inactive : List Bool) (dire
     rested z = sym (ap (turnBy route budget before) p ∙ rw (eq-eqb (getD left o 0) 0 z))
 
     pub turn-rest : (r : State) (a : Acted) (low : ℕ) → getD left o 0 ≡ 0 → a ≡ restActed (s .standing .asked) (s .standing) o
-        → r ≡ steppedOn a (s .done) low → runningOf r inactive direction space address left offset slave master ≡ turnOf route budget before
+        → r ≡ steppedOn a (s .done) low → runningOf r true inactive direction space address left offset slave master ≡ turnOf route budget before
     turn-rest r a low z g e =
         let b = restActed (s .standing .asked) (s .standing) o in
         let none = ap (λ (y : Phase). eqb (getD left (ownerPlace y) 0) 0) p ∙ eq-eqb (getD left o 0) 0 z in
-        let x = decides-rest route (s .standing) (requestOf (before .channel) (ownerPlace (s .standing .phase))) left inactive o p _ none
+        let x = decides-rest route (s .standing) ever (requestOf (before .channel) (ownerPlace (s .standing .phase))) left inactive o p _ none
         refl in
         let q = rests (s .standing .asked) (s .standing) o in
         rw (e, g) (stays-done route before b inactive (x .0) (x .1) (q .0) (q .1)) ∙ rested z
@@ -171,18 +171,18 @@ module _ (route : Route) (budget : ℕ) (s : State) (inactive : List Bool) (dire
 module _ (base low : ℕ) (ch : Channel) (x : Lows base low ch) where
   rest-lows : (asked : Asked) (s : Standing) (o : ℕ) → s .phase ≡ ch .phase
       → Lows base low (changed ch (restActed asked s o .standing .phase) (restActed asked s o .standing .asked)
-      (restActed asked s o .standing .ever) (restActed asked s o .standing .clock) (ch .inactive))
+      true (restActed asked s o .standing .clock) (ch .inactive))
   rest-lows Never s o e = record { most = x .most; small = x .small; none = x .none; clear = x .clear; owner = rw e (x .owner) }
   rest-lows (At t) s o e = record { most = x .most; small = x .small; none = x .none; clear = x .clear; owner = x .small }
 
   pub lows-rest : (r : State) (a : Acted) (s : Standing) (o done : ℕ) → s .phase ≡ ch .phase → a ≡ restActed (s .asked) s o → r
       ≡ steppedOn a done low
-      → Lows base (r .low) (changed ch (r .standing .phase) (r .standing .asked) (r .standing .ever) (r .standing .clock) (ch .inactive))
+      → Lows base (r .low) (changed ch (r .standing .phase) (r .standing .asked) true (r .standing .clock) (ch .inactive))
   lows-rest r a s o done p g e = rw (e, g) (rest-lows (s .asked) s o p)
 
   grant-lows : (marks : List Bool) (c : Chosen) (a : Standing) → IsChosen (ch .left) (ch .inactive) marks base c → a .phase
       ≡ Granted (c .winner)
-      → Lows base (c .low) (changed ch (a .phase) (a .asked) (a .ever) (a .clock) marks)
+      → Lows base (c .low) (changed ch (a .phase) (a .asked) true (a .clock) marks)
   grant-lows marks c a i e =
       record {
         most = x .most;
@@ -192,12 +192,12 @@ module _ (base low : ℕ) (ch : Channel) (x : Lows base low ch) where
         owner = rw e (omega (arith, i .low, i .won));
       }
 
-  pub lows-grant : (r : State) (a : Acted) (s : Standing) (done : ℕ) (marks : List Bool) (c : Chosen)
+  pub lows-grant : (r : State) (a : Acted) (s : Standing) (ever : Bool) (done : ℕ) (marks : List Bool) (c : Chosen)
       → IsChosen (ch .left) (ch .inactive) marks base c
-      → a ≡ grantedBy s (c .winner) (c .active) → r ≡ steppedOn a done (c .low)
-      → Lows base (r .low) (changed ch (r .standing .phase) (r .standing .asked) (r .standing .ever) (r .standing .clock) marks)
+      → a ≡ grantedBy s ever (c .winner) (c .active) → r ≡ steppedOn a done (c .low)
+      → Lows base (r .low) (changed ch (r .standing .phase) (r .standing .asked) true (r .standing .clock) marks)
   unfolding grantedBy
-  lows-grant r a s done marks c i g e = rw (e, g) (grant-lows marks c (grantedBy s (c .winner) (c .active) .standing) i refl)
+  lows-grant r a s ever done marks c i g e = rw (e, g) (grant-lows marks c (grantedBy s ever (c .winner) (c .active) .standing) i refl)
 
   module _ (o : ℕ) (p : ch .phase ≡ Granted o) (some : hasRequest (ch .left) o ≡ true) where
     low-owner : low ≤ o

@@ -30,7 +30,7 @@ ghost use Rattle.sound.specs.inner.Tables.{requestAt};
 ghost use Rattle.act.specs.Cycle.{cycleBytes};
 ghost use Rattle.act.specs.Turn.{arbitrationTime};
 ghost use Rattle.step.specs.Step.{Way};
-ghost use Rattle.step.specs.inner.Machine.{waitsFrom, othersFrom, Search, IsChosen, channelOf};
+ghost use Rattle.step.specs.inner.Machine.{waitsFrom, othersFrom, Search, IsChosen, everBy, channelOf};
 ghost use Rattle.step.specs.inner.Machine.{fullActed, grantedBy, restActed, standingAfter, stayOf, cycleActed, cycleDecided, cycleMarks};
 ghost use Rattle.step.specs.inner.Machine.{Actable, decidedOf, decidedMarks};
 
@@ -38,7 +38,6 @@ ghost use Rattle.step.specs.inner.Machine.{Actable, decidedOf, decidedMa
 pub(crate) struct Standing {
     pub phase: Phase,
     pub asked: Asked,
-    pub ever: bool,
     pub clock: u32,
     pub tally: Tally,
 }
@@ -118,9 +117,20 @@ pub(crate) fn put_slot(
     offset[at] = slot.offset;
 }
 
+// Whether the channel was ever granted, after a step: before its first grant no other step is done.
+pub(crate) fn ever_by(answer: StepAnswer, ever: bool) -> bool
+    ensures { λ r. ⌜ r ≡ everBy answer ever ⌝ }
+{
+    match answer {
+        StepAnswer::Done(_) => true,
+        StepAnswer::Refused(_) => ever,
+    }
+}
+
 // The channel, put together again.
 pub(crate) fn channel_of(
     standing: Standing,
+    ever: bool,
     inactive: [bool; PLACES],
     direction: [u32; PLACES],
     space: [u32; PLACES],
@@ -128,14 +138,14 @@ pub(crate) fn channel_of(
     left: [u32; PLACES],
     offset: [u32; PLACES],
 ) -> Channel
-    ensures { λ r. ⌜ r ≡ channelOf standing inactive direction space address left offset ⌝ }
+    ensures { λ r. ⌜ r ≡ channelOf standing ever inactive direction space address left offset ⌝ }
 {
     let phase = standing.phase;
     let asked = standing.asked;
     Channel {
         phase: phase,
         asked: asked,
-        ever: standing.ever,
+        ever: ever,
         clock: standing.clock,
         inactive: inactive,
         direction: direction,
@@ -219,18 +229,17 @@ pub(crate) fn full_acted(standing: Standing) -> Acted
     }
 }
 
-// The winner is the owner, with no asked time until the line rule sets one. The channel has now been granted.
-pub(crate) fn granted_by(standing: Standing, chosen: Chosen) -> Acted
-    requires { ⌜ standing .clock + arbitrationTime (standing .ever) ≤ clockLimit ⌝ }
-    ensures { λ r. ⌜ r ≡ grantedBy standing (chosen .winner) (chosen .active) ⌝ }
+// The winner is the owner, with no asked time until the line rule sets one.
+pub(crate) fn granted_by(standing: Standing, ever: bool, chosen: Chosen) -> Acted
+    requires { ⌜ standing .clock + arbitrationTime ever ≤ clockLimit ⌝ }
+    ensures { λ r. ⌜ r ≡ grantedBy standing ever (chosen .winner) (chosen .active) ⌝ }
 {
-    let clock = standing.clock + act::arbitration_time(standing.ever);
+    let clock = standing.clock + act::arbitration_time(ever);
     let asked = channel::asked_if(chosen.active, clock);
     let tally = tally::add_grant(standing.tally);
     let next = Standing {
         phase: Phase::Granted(chosen.winner),
         asked: asked,
-        ever: true,
         clock: clock,
         tally: tally,
     };
@@ -257,7 +266,6 @@ pub(crate) fn rest_acted(standing: Standing, owner: u8) -> Acted
             let next = Standing {
                 phase: Phase::Arbitrating,
                 asked: Asked::Never,
-                ever: standing.ever,
                 clock: standing.clock,
                 tally: longest,
             };
@@ -280,12 +288,10 @@ pub(crate) fn standing_after(
 {
     let phase = standing.phase;
     let asked = standing.asked;
-    let ever = standing.ever;
     if act::is_kept(ending) {
         return Standing {
             phase: phase,
             asked: asked,
-            ever: ever,
             clock: clock,
             tally: tally,
         };
@@ -293,7 +299,6 @@ pub(crate) fn standing_after(
     Standing {
         phase: Phase::Arbitrating,
         asked: Asked::Never,
-        ever: ever,
         clock: clock,
         tally: tally,
     }
@@ -381,22 +386,23 @@ fn cycle_decided(
 pub(crate) fn act_on(
     route: Route,
     standing: Standing,
+    ever: bool,
     request: Request,
     left: &[u32; PLACES],
     inactive: &mut [bool; PLACES],
 ) -> Decided
     requires { ⌜ Actable route standing request ⌝ }
-    ensures { λ r. ⌜ r ≡ decidedOf route standing request (now (left .entry)) (now (inactive .entry)) ⌝ }
-    ensures { λ r. ⌜ now (inactive .exit) ≡ decidedMarks route standing request (now (left .entry)) (now (inactive .entry)) ⌝ }
+    ensures { λ r. ⌜ r ≡ decidedOf route standing ever request (now (left .entry)) (now (inactive .entry)) ⌝ }
+    ensures { λ r. ⌜ now (inactive .exit) ≡ decidedMarks route standing ever request (now (left .entry)) (now (inactive .entry)) ⌝ }
 {
     let phase = standing.phase;
     match phase {
         Phase::Arbitrating => {
-            if is_full(standing.clock, act::arbitration_time(standing.ever)) {
+            if is_full(standing.clock, act::arbitration_time(ever)) {
                 return stay(full_acted(standing), request);
             }
             let chosen = choose(left, inactive, 0, 0);
-            stay(granted_by(standing, chosen), request)
+            stay(granted_by(standing, ever, chosen), request)
         }
         Phase::Granted(owner) => {
             if request.left == 0 {

@@ -12,6 +12,7 @@ use act::Route;
 use acts::Standing;
 use acts::act_on;
 use acts::channel_of;
+use acts::ever_by;
 use acts::owner_place;
 use acts::put_slot;
 use acts::slot_at;
@@ -134,7 +135,6 @@ fn decide_in_place(setup: Setup, channel: Channel, tally: Tally) -> Decision
     let standing = Standing {
         phase: phase,
         asked: asked,
-        ever: channel.ever,
         clock: channel.clock,
         tally: tally,
     };
@@ -147,7 +147,7 @@ fn decide_in_place(setup: Setup, channel: Channel, tally: Tally) -> Decision
     let at = owner_place(standing);
     let request = slot_at(&direction, &space, &address, &left, &offset, at);
     let route = route_for(setup, at, request);
-    let decided = act_on(route, standing, request, &left, &mut inactive);
+    let decided = act_on(route, standing, channel.ever, request, &left, &mut inactive);
     let slot = decided.slot;
     put_slot(
         &mut direction,
@@ -163,7 +163,17 @@ fn decide_in_place(setup: Setup, channel: Channel, tally: Tally) -> Decision
     let figures = next.tally;
     let answer = acted.answer;
     let carry = decided.carry;
-    let after = channel_of(next, inactive, direction, space, address, left, offset);
+    let ever = ever_by(answer, channel.ever);
+    let after = channel_of(
+        next,
+        ever,
+        inactive,
+        direction,
+        space,
+        address,
+        left,
+        offset,
+    );
     let stepped = Stepped {
         channel: after,
         tally: figures,
@@ -338,6 +348,15 @@ fn run_ready(
 {
     if STEPS_MOST < budget {
         return refused_run(channel, tally, Refusal::TooManySteps);
+    }
+    // none is taken, not even the first grant
+    if budget == 0 {
+        return Ran {
+            channel: channel,
+            tally: tally,
+            steps: 0,
+            verdict: Verdict::Accepted,
+        };
     }
     run_steps(setup, channel, tally, slave, master, budget)
 }

@@ -18,8 +18,10 @@ use channel::Channel;
 use frame::Setup;
 use tally::Tally;
 ghost use mathlib.Core.Path.{_≡_};
+ghost use mathlib.Core.Bool.{_||_};
 ghost use Prim.Native.Nat.{_≤_};
 ghost use lib.ListN.{length};
+ghost use lib.Dec.{ltb};
 ghost use Rattle.basics.specs.Limits.{stepsMost};
 ghost use Rattle.channel.specs.Channel.{Shaped, ownerPlace};
 ghost use Rattle.step.specs.Step.{Ready};
@@ -36,10 +38,11 @@ struct Log {
     at: usize,
 }
 
-// One step, and its line.
+// One step, and its line. The channel was granted before the run (`first`), or by a step that was done in it.
 fn log_step(
     route: Route,
     place: usize,
+    first: bool,
     log: Log,
     inactive: &mut [bool; PLACES],
     direction: &mut [u32; PLACES],
@@ -52,16 +55,17 @@ fn log_step(
     out: &mut [u8],
 ) -> Log
     requires { ⌜ place ≡ ownerPlace (log .standing .phase) ⌝ }
-    requires { ⌜ Loggable route (runningBy (log .standing) (log .done) (log .full) (now inactive) (now direction) (now space) (now address)
-        (now left) (now offset) (now slave) (now master)) ⌝ }
-    ensures { λ r. ⌜ loggingOf r (now (inactive .exit)) (now (direction .exit)) (now (space .exit)) (now (address .exit))
+    requires { ⌜ Loggable route (runningBy (log .standing) (ltb 0 (log .done) || first) (log .done) (log .full) (now inactive) (now direction)
+        (now space) (now address) (now left) (now offset) (now slave) (now master)) ⌝ }
+    ensures { λ r. ⌜ loggingOf r first (now (inactive .exit)) (now (direction .exit)) (now (space .exit)) (now (address .exit))
         (now (left .exit)) (now (offset .exit)) (now (slave .exit)) (now (master .exit)) (now (out .exit))
-        ≡ logStep route (loggingOf log (now (inactive .entry)) (now (direction .entry)) (now (space .entry))
+        ≡ logStep route (loggingOf log first (now (inactive .entry)) (now (direction .entry)) (now (space .entry))
         (now (address .entry)) (now (left .entry)) (now (offset .entry)) (now (slave .entry)) (now (master .entry)) (now (out .entry))) ⌝ }
 {
     let standing = log.standing;
     let request = slot_at(direction, space, address, left, offset, place);
-    let decided = act_on(route, standing, request, left, inactive);
+    let ever = (0 < log.done) | first;
+    let decided = act_on(route, standing, ever, request, left, inactive);
     let slot = decided.slot;
     put_slot(direction, space, address, left, offset, place, slot);
     let what = decided.carry;
@@ -121,7 +125,6 @@ pub(crate) fn log_steps(
     let standing = Standing {
         phase: phase,
         asked: asked,
-        ever: channel.ever,
         clock: channel.clock,
         tally: tally,
     };
@@ -131,6 +134,7 @@ pub(crate) fn log_steps(
         full: false,
         at: at,
     };
+    let first = channel.ever;
     while (log.done < budget) & !log.full & logline::has_room(out.len(), log.at) {
         let current = log.standing;
         let place = owner_place(current);
@@ -138,6 +142,7 @@ pub(crate) fn log_steps(
         log = log_step(
             route,
             place,
+            first,
             log,
             &mut inactive,
             &mut direction,
@@ -153,7 +158,16 @@ pub(crate) fn log_steps(
     let last = log.standing;
     let figures = last.tally;
     let verdict = verdict_of(log.full);
-    let next = channel_of(last, inactive, direction, space, address, left, offset);
+    let next = channel_of(
+        last,
+        (0 < log.done) | first,
+        inactive,
+        direction,
+        space,
+        address,
+        left,
+        offset,
+    );
     let ran = Ran {
         channel: next,
         tally: figures,

@@ -31,7 +31,7 @@ use refusal::Verdict;
 use tally::Tally;
 ghost use mathlib.Core.Path.{_≡_};
 ghost use Prim.Native.Nat.{_+_, _-_, _≤_, _<_};
-ghost use mathlib.Core.Bool.{false};
+ghost use mathlib.Core.Bool.{true, false};
 ghost use lib.ListN.{length};
 ghost use Rattle.basics.specs.Limits.{places, systemMaster, clockLimit, stepsMost};
 ghost use Rattle.channel.specs.Channel.{Shaped};
@@ -40,8 +40,8 @@ ghost use Rattle.sound.specs.inner.Tables.{requestAt};
 ghost use Rattle.act.specs.Cycle.{cycleBytes};
 ghost use Rattle.step.specs.Step.{Ready, Way, Roomy};
 ghost use Rattle.step.specs.Run.{world, runFrom};
-ghost use Rattle.step.specs.inner.Machine.{NoneAsk, channelOf};
-ghost use Rattle.step.specs.inner.Turns.{cycleOn, filled, held, AreRoutes, steppedOn, cyclesRun, Lows, Turnable, runningOf, turnOf, verdictOf};
+ghost use Rattle.step.specs.inner.Machine.{NoneAsk, Search, channelOf};
+ghost use Rattle.step.specs.inner.Turns.{cycleOn, filled, held, AreRoutes, steppedOn, Begun, cyclesRun, Lows, Turnable, runningOf, turnOf, verdictOf};
 
 // A run: what stands after its last turn, the steps done, whether the next one would pass the clock's limit, and a level
 // below which nobody waits.
@@ -148,6 +148,30 @@ fn stepped_on(acted: Acted, done: u32, low: u8) -> State
     }
 }
 
+// Where the turns of a run begin: a channel that was never granted takes its first grant by itself, so that no turn has to ask.
+fn begin(
+    standing: Standing,
+    ever: bool,
+    base: u8,
+    left: &[u32; PLACES],
+    inactive: &mut [bool; PLACES],
+) -> State
+    requires { ⌜ Search (now left) (now inactive) base base ⌝ }
+    requires { ⌜ (ever ≡ false → standing .clock ≡ 0) ⌝ }
+    ensures { λ r. ⌜ Begun standing ever base (now (left .entry)) (now (inactive .entry)) (now (inactive .exit)) r ⌝ }
+{
+    if ever {
+        return State {
+            standing: standing,
+            done: 0,
+            full: false,
+            low: base,
+        };
+    }
+    let chosen = choose(left, inactive, base, base);
+    stepped_on(granted_by(standing, ever, chosen), 0, chosen.low)
+}
+
 // The owner's cycles, on the lent arrays.
 fn run_cycles(
     route: Route,
@@ -171,9 +195,9 @@ fn run_cycles(
     requires { ⌜ Roomy route request (length (now slave)) (length (now master)) ⌝ }
     requires { ⌜ state .standing .clock ≤ clockLimit ⌝ }
     requires { ⌜ budget ≤ stepsMost ⌝ }
-    ensures { λ r. ⌜ runningOf r (now (inactive .exit)) (now (direction .exit)) (now (space .exit)) (now (address .exit))
+    ensures { λ r. ⌜ runningOf r true (now (inactive .exit)) (now (direction .exit)) (now (space .exit)) (now (address .exit))
         (now (left .exit)) (now (offset .exit)) (now (slave .exit)) (now (master .exit))
-        ≡ cyclesRun route budget at (runningOf state (now (inactive .entry)) (now (direction .entry)) (now (space .entry))
+        ≡ cyclesRun route budget at (runningOf state true (now (inactive .entry)) (now (direction .entry)) (now (space .entry))
         (now (address .entry)) (now (left .entry)) (now (offset .entry)) (now (slave .entry)) (now (master .entry))) ⌝ }
     ensures { λ r. ⌜ r .low ≡ state .low ⌝ }
 {
@@ -218,20 +242,20 @@ fn turn(
     master: &mut [u8],
     budget: u32,
 ) -> State
-    requires { ⌜ Turnable route base (state .low) budget (runningOf state (now inactive) (now direction) (now space) (now address)
+    requires { ⌜ Turnable route base (state .low) budget (runningOf state true (now inactive) (now direction) (now space) (now address)
         (now left) (now offset) (now slave) (now master)) ⌝ }
-    ensures { λ r. ⌜ runningOf r (now (inactive .exit)) (now (direction .exit)) (now (space .exit)) (now (address .exit))
+    ensures { λ r. ⌜ runningOf r true (now (inactive .exit)) (now (direction .exit)) (now (space .exit)) (now (address .exit))
         (now (left .exit)) (now (offset .exit)) (now (slave .exit)) (now (master .exit))
-        ≡ turnOf route budget (runningOf state (now (inactive .entry)) (now (direction .entry)) (now (space .entry))
+        ≡ turnOf route budget (runningOf state true (now (inactive .entry)) (now (direction .entry)) (now (space .entry))
         (now (address .entry)) (now (left .entry)) (now (offset .entry)) (now (slave .entry)) (now (master .entry))) ⌝ }
-    ensures { λ r. ⌜ Lows base (r .low) (channelOf (r .standing) (now (inactive .exit)) (now (direction .exit)) (now (space .exit))
+    ensures { λ r. ⌜ Lows base (r .low) (channelOf (r .standing) true (now (inactive .exit)) (now (direction .exit)) (now (space .exit))
         (now (address .exit)) (now (left .exit)) (now (offset .exit))) ⌝ }
 {
     let standing = state.standing;
     let phase = standing.phase;
     match phase {
         Phase::Arbitrating => {
-            if is_full(standing.clock, act::arbitration_time(standing.ever)) {
+            if is_full(standing.clock, act::arbitration_time(true)) {
                 return State {
                     standing: standing,
                     done: state.done,
@@ -240,7 +264,7 @@ fn turn(
                 };
             }
             let chosen = choose(left, inactive, base, state.low);
-            stepped_on(granted_by(standing, chosen), state.done, chosen.low)
+            stepped_on(granted_by(standing, true, chosen), state.done, chosen.low)
         }
         Phase::Granted(owner) => {
             let at = owner as usize;
@@ -337,6 +361,7 @@ pub(crate) fn run_steps(
     requires { ⌜ Ready setup channel (length (now slave)) (length (now master)) ⌝ }
     requires { ⌜ Shaped channel ⌝ }
     requires { ⌜ budget ≤ stepsMost ⌝ }
+    requires { ⌜ 0 < budget ⌝ }
     ensures { λ r. ⌜ r ≡ runFrom setup budget 0 (world channel tally (now (slave .entry)) (now (master .entry))) .result ⌝ }
     ensures { λ r. ⌜ now (slave .exit) ≡ runFrom setup budget 0 (world channel tally (now (slave .entry)) (now (master .entry))) .slave ⌝ }
     ensures { λ r. ⌜ now (master .exit) ≡ runFrom setup budget 0 (world channel tally (now (slave .entry)) (now (master .entry))) .master ⌝ }
@@ -354,16 +379,10 @@ pub(crate) fn run_steps(
     let standing = Standing {
         phase: phase,
         asked: asked,
-        ever: channel.ever,
         clock: channel.clock,
         tally: tally,
     };
-    let mut state = State {
-        standing: standing,
-        done: 0,
-        full: false,
-        low: base,
-    };
+    let mut state = begin(standing, channel.ever, base, &left, &mut inactive);
     while (state.done < budget) & !state.full {
         let current = state.standing;
         let at = owner_place(current);
@@ -386,7 +405,16 @@ pub(crate) fn run_steps(
     let last = state.standing;
     let figures = last.tally;
     let verdict = verdict_of(state.full);
-    let next = channel_of(last, inactive, direction, space, address, left, offset);
+    let next = channel_of(
+        last,
+        true,
+        inactive,
+        direction,
+        space,
+        address,
+        left,
+        offset,
+    );
     Ran {
         channel: next,
         tally: figures,

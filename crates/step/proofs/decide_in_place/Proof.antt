@@ -47,13 +47,13 @@ returns c =
     let fifteen = ten .before .before .before .before .before in
     let twenty = fifteen .before .before .before .before .before in
     let twenty-five = twenty .before .before .before .before .before in
-    let a = twenty-five .before .before .before .before .args in
-    let p = twenty-five .before .before .before .before .pre in
-    let d = ten .before .before .act-on .ensures in
-    let slots = five .put-slot .ensures in
-    decision-made (a .setup) (a .channel) (a .tally) _ _ (p .0) (p .1) _ (twenty .before .before .owner-place .ensures) _
-    (fifteen .before .slot-at .ensures) _ (fifteen .route-for .ensures)
-    _ _ _ (d .0) (d .1) (c .channel-of .ensures ∙ rw (slots .0, slots .1 .0, slots .1 .1 .0, slots .1 .1 .1 .0, slots .1 .1 .1 .1))
+    let a = twenty-five .before .before .before .before .before .args in
+    let p = twenty-five .before .before .before .before .before .pre in
+    let d = ten .before .before .before .act-on .ensures in
+    let slots = five .before .put-slot .ensures in
+    decision-made (a .setup) (a .channel) (a .tally) _ _ (p .0) (p .1) _ (twenty .before .before .before .owner-place .ensures) _
+    (fifteen .before .before .slot-at .ensures) _ (fifteen .before .route-for .ensures)
+    _ _ _ (d .0) (d .1) (c .channel-of .ensures ∙ rw (c .before .ever-by .ensures, slots .0, slots .1 .0, slots .1 .1 .0, slots .1 .1 .1 .0, slots .1 .1 .1 .1))
 
 pub decide-in-place-spec : {M : Type 1} → statement M
 decide-in-place-spec =
@@ -64,5 +64,6 @@ decide-in-place-spec =
     route-for-requires
     act-on-requires
     put-slot-requires
+    (λ c κs. search needs)  -- ever-by-requires
     (λ c κs. search needs)  -- channel-of-requires
     returns)

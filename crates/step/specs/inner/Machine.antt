@@ -99,13 +99,13 @@ pub record IsChosen (left : List ℕ) (before after : List Bool) (base : ℕ) (c
   pub low : c .low ≤ winner left before
   pub clear : NoneWait left after (c .low)
 
--- a channel as the program keeps it: what stands by value, and the arrays
-abbrev pub channelOf : Standing → List Bool → List ℕ → List ℕ → List ℕ → List ℕ → List ℕ → Channel
-channelOf s inactive direction space address left offset =
+-- a channel as the program keeps it: what stands by value, whether it was ever granted, and the arrays
+abbrev pub channelOf : Standing → Bool → List Bool → List ℕ → List ℕ → List ℕ → List ℕ → List ℕ → Channel
+channelOf s ever inactive direction space address left offset =
     record {
       phase = s .phase;
       asked = s .asked;
-      ever = s .ever;
+      ever = ever;
       clock = s .clock;
       inactive = inactive;
       direction = direction;
@@ -116,25 +116,24 @@ channelOf s inactive direction space address left offset =
     }
 
 abbrev pub standingOf : Channel → Tally → Standing
-standingOf ch t = record { phase = ch .phase; asked = ch .asked; ever = ch .ever; clock = ch .clock; tally = t }
+standingOf ch t = record { phase = ch .phase; asked = ch .asked; clock = ch .clock; tally = t }
 
 -- refusal 6
 unfoldable pub fullActed : Standing → Acted
 fullActed s = record { standing = s; answer = Refused (refusalBy 6) }
 
 -- the grant, and the line rule's asked time
-unfoldable pub grantedBy : Standing → ℕ → Bool → Acted
-grantedBy s w active =
+unfoldable pub grantedBy : Standing → Bool → ℕ → Bool → Acted
+grantedBy s ever w active =
     record {
       standing =
           record {
             phase = Granted w;
-            asked = askedIf active (s .clock + arbitrationTime (s .ever));
-            ever = true;
-            clock = s .clock + arbitrationTime (s .ever);
+            asked = askedIf active (s .clock + arbitrationTime ever);
+            clock = s .clock + arbitrationTime ever;
             tally = addGrant (s .tally);
           };
-      answer = Done (Grant (s .clock + arbitrationTime (s .ever)) w);
+      answer = Done (Grant (s .clock + arbitrationTime ever) w);
     }
 
 -- an owner without a request leaves where it is asked, and idles otherwise
@@ -146,7 +145,6 @@ restActed (At t) s o =
           record {
             phase = Arbitrating;
             asked = Never;
-            ever = s .ever;
             clock = s .clock;
             tally = addRelease (s .tally) (After (s .clock - t));
           };
@@ -159,7 +157,6 @@ standingAfter s clock t ending =
     record {
       phase = cond (isKept ending) (s .phase) Arbitrating;
       asked = cond (isKept ending) (s .asked) Never;
-      ever = s .ever;
       clock = clock;
       tally = t;
     }
@@ -199,30 +196,30 @@ unfoldable pub cycleMarks : Route → Standing → ℕ → Request → List Bool
 cycleMarks route s o q inactive = set inactive o (isMarked (endingBy route s q))
 
 -- the step, by the phase: what it decides, and the marks after it
-abbrev pub decidedBy : Route → Standing → Request → List ℕ → List Bool → Phase → Decided
-decidedBy route s q left inactive Arbitrating =
+abbrev pub decidedBy : Route → Standing → Bool → Request → List ℕ → List Bool → Phase → Decided
+decidedBy route s ever q left inactive Arbitrating =
     stayOf
     (cond
-    (ltb clockLimit (s .clock + arbitrationTime (s .ever)))
+    (ltb clockLimit (s .clock + arbitrationTime ever))
     (fullActed s)
-    (grantedBy s (winner left inactive) (lineActive left (grantMarks left inactive) (Granted (winner left inactive)))))
+    (grantedBy s ever (winner left inactive) (lineActive left (grantMarks left inactive) (Granted (winner left inactive)))))
     q
-decidedBy route s q left inactive (Granted o) =
+decidedBy route s ever q left inactive (Granted o) =
     cond
     (eqb (q .left) 0)
     (stayOf (restActed (s .asked) s o) q)
     (cond (ltb clockLimit (s .clock + route .time)) (stayOf (fullActed s) q) (cycleDecided route s o q))
 
-abbrev pub marksBy : Route → Standing → Request → List ℕ → List Bool → Phase → List Bool
-marksBy route s q left inactive Arbitrating = cond (ltb clockLimit (s .clock + arbitrationTime (s .ever))) inactive (grantMarks left inactive)
-marksBy route s q left inactive (Granted o) =
+abbrev pub marksBy : Route → Standing → Bool → Request → List ℕ → List Bool → Phase → List Bool
+marksBy route s ever q left inactive Arbitrating = cond (ltb clockLimit (s .clock + arbitrationTime ever)) inactive (grantMarks left inactive)
+marksBy route s ever q left inactive (Granted o) =
     cond (eqb (q .left) 0) inactive (cond (ltb clockLimit (s .clock + route .time)) inactive (cycleMarks route s o q inactive))
 
-unfoldable pub decidedOf : Route → Standing → Request → List ℕ → List Bool → Decided
-decidedOf route s q left inactive = decidedBy route s q left inactive (s .phase)
+unfoldable pub decidedOf : Route → Standing → Bool → Request → List ℕ → List Bool → Decided
+decidedOf route s ever q left inactive = decidedBy route s ever q left inactive (s .phase)
 
-unfoldable pub decidedMarks : Route → Standing → Request → List ℕ → List Bool → List Bool
-decidedMarks route s q left inactive = marksBy route s q left inactive (s .phase)
+unfoldable pub decidedMarks : Route → Standing → Bool → Request → List ℕ → List Bool → List Bool
+decidedMarks route s ever q left inactive = marksBy route s ever q left inactive (s .phase)
 
 -- what it relies on
 pub record Actable (route : Route) (s : Standing) (q : Request) : Type 0 where
@@ -257,11 +254,16 @@ refusedRun ch t why = record { channel = ch; tally = t; steps = 0; verdict = Sto
 abbrev pub refusedLog : Channel → Tally → Refusal → ℕ → Logged
 refusedLog ch t why at = record { ran = refusedRun ch t why; end = at }
 
--- the channel after a decided step
+-- the channel after a decided step: one that was done leaves it granted, whatever it was, since none but a grant is done before the first
+abbrev pub everBy : StepAnswer → Bool → Bool
+everBy (Done entry) ever = true
+everBy (Refused why) ever = ever
+
 abbrev pub channelBy : Channel → Decided → List Bool → Channel
 channelBy ch d marks =
     withRequest
-    (changed ch (d .acted .standing .phase) (d .acted .standing .asked) (d .acted .standing .ever) (d .acted .standing .clock) marks)
+    (changed ch (d .acted .standing .phase) (d .acted .standing .asked) (everBy (d .acted .answer) (ch .ever))
+    (d .acted .standing .clock) marks)
     (ownerPlace (ch .phase))
     (d .slot)
 

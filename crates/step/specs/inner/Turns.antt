@@ -2,7 +2,7 @@
 -- `runOf` alone, and proofs/TurnLaws shows that a turn takes the steps of `runFrom`.
 use Prim.Native.Nat.{ℕ, zero, suc, _+_, _-_, _≤_, _<_}
 use mathlib.Core.Path.{_≡_}
-use mathlib.Core.Bool.{Bool, true, false, cond}
+use mathlib.Core.Bool.{Bool, true, false, cond, _||_}
 use mathlib.Core.List.{List}
 use lib.ListN.{length, getD}
 use lib.Dec.{eqb, ltb}
@@ -28,13 +28,14 @@ use Rattle.step.specs.declared.StepAnswer.the-variants.{Done, Refused as
 use Rattle.step.specs.declared.acts.Acted.{Acted}
 use Rattle.step.specs.declared.acts.Standing.{Standing}
 use Rattle.step.specs.declared.acts.Decided.{Decided}
+use Rattle.step.specs.declared.acts.Chosen.{Chosen}
 use Rattle.step.specs.declared.logs.Log.{Log}
 use Rattle.step.specs.declared.turns.State.{State}
 use Rattle.step.specs.declared.turns.Tenure.{Tenure}
 use Rattle.step.specs.Step.{Roomy, Room, carryOf, movedSlave, movedMaster}
 use Rattle.step.specs.Run.{World, Out, world, stopped, runFrom}
 use Rattle.step.specs.Log.{Page, page, pageAfter, LoggedOut, closed, logFrom}
-use Rattle.step.specs.inner.Machine.{NoneAsk, NoneWait, noRoute, channelOf, channelBy, standingOf, decidedOf, decidedMarks, Actable}
+use Rattle.step.specs.inner.Machine.{NoneAsk, NoneWait, IsChosen, noRoute, channelOf, channelBy, standingOf, grantedBy, decidedOf, decidedMarks, Actable}
 
 -- all that a run changes: the channel, the tally, the stores, the steps done, and whether the next step would pass the clock's limit
 pub record Running : Type 0 where
@@ -47,10 +48,10 @@ pub record Running : Type 0 where
 
 -- as the program keeps it: what stands by value, the channel's arrays, and the stores
 abbrev pub runningBy
-    : Standing → ℕ → Bool → List Bool → List ℕ → List ℕ → List ℕ → List ℕ → List ℕ → List ℕ → List ℕ → Running
-runningBy standing done full inactive direction space address left offset slave master =
+    : Standing → Bool → ℕ → Bool → List Bool → List ℕ → List ℕ → List ℕ → List ℕ → List ℕ → List ℕ → List ℕ → Running
+runningBy standing ever done full inactive direction space address left offset slave master =
     record {
-      channel = channelOf standing inactive direction space address left offset;
+      channel = channelOf standing ever inactive direction space address left offset;
       tally = standing .tally;
       done = done;
       full = full;
@@ -58,9 +59,9 @@ runningBy standing done full inactive direction space address left offset slave 
       master = master;
     }
 
-abbrev pub runningOf : State → List Bool → List ℕ → List ℕ → List ℕ → List ℕ → List ℕ → List ℕ → List ℕ → Running
-runningOf state inactive direction space address left offset slave master =
-    runningBy (state .standing) (state .done) (state .full) inactive direction space address left offset slave master
+abbrev pub runningOf : State → Bool → List Bool → List ℕ → List ℕ → List ℕ → List ℕ → List ℕ → List ℕ → List ℕ → Running
+runningOf state ever inactive direction space address left offset slave master =
+    runningBy (state .standing) ever (state .done) (state .full) inactive direction space address left offset slave master
 
 -- a step as it was decided
 abbrev pub stepsAfter : StepAnswer → ℕ → ℕ
@@ -83,10 +84,10 @@ runningAfter w d marks =
     }
 
 abbrev pub decidedIn : Route → Channel → Tally → Decided
-decidedIn route ch t = decidedOf route (standingOf ch t) (requestOf ch (ownerPlace (ch .phase))) (ch .left) (ch .inactive)
+decidedIn route ch t = decidedOf route (standingOf ch t) (ch .ever) (requestOf ch (ownerPlace (ch .phase))) (ch .left) (ch .inactive)
 
 abbrev pub marksIn : Route → Channel → Tally → List Bool
-marksIn route ch t = decidedMarks route (standingOf ch t) (requestOf ch (ownerPlace (ch .phase))) (ch .left) (ch .inactive)
+marksIn route ch t = decidedMarks route (standingOf ch t) (ch .ever) (requestOf ch (ownerPlace (ch .phase))) (ch .left) (ch .inactive)
 
 unfoldable pub stepRun : Route → Running → Running
 stepRun route w = runningAfter w (decidedIn route (w .channel) (w .tally)) (marksIn route (w .channel) (w .tally))
@@ -164,6 +165,14 @@ cyclesRun route budget o w =
 abbrev pub steppedOn : Acted → ℕ → ℕ → State
 steppedOn a done low = record { standing = a .standing; done = done + 1; full = false; low = low }
 
+-- where the turns begin: as the run does, or, where the channel was never granted, after its first grant
+abbrev pub startAt : Standing → ℕ → State
+startAt s base = record { standing = s; done = 0; full = false; low = base }
+
+pub record Begun (s : Standing) (ever : Bool) (base : ℕ) (left : List ℕ) (before after : List Bool) (r : State) : Type 0 where
+  pub later : ever ≡ true → (r ≡ startAt s base) × (after ≡ before)
+  pub first : ever ≡ false → (c : Chosen) × (IsChosen left before after base c) × (r ≡ steppedOn (grantedBy s ever (c .winner) (c .active)) 0 (c .low))
+
 -- one turn
 abbrev pub turnBy : Route → ℕ → Running → Phase → Running
 turnBy route budget w Arbitrating = stepRun route w
@@ -211,17 +220,17 @@ pub record Turnable (route : Route) (base low budget : ℕ) (w : Running) : Type
   pub lows : Lows base low (w .channel)
   pub owned : (o : ℕ) → w .channel .phase ≡ Granted o → Owned route w o
 
--- a logged run: the run, and the page
+-- a logged run: the run, and the page. It was granted before, or a step was done
 pub record Logging : Type 0 where
   pub running : Running
   pub page : Page
 
 abbrev pub loggingOf
-    : Log → List Bool → List ℕ → List ℕ → List ℕ → List ℕ → List ℕ → List ℕ → List ℕ → List ℕ → Logging
-loggingOf log inactive direction space address left offset slave master out =
+    : Log → Bool → List Bool → List ℕ → List ℕ → List ℕ → List ℕ → List ℕ → List ℕ → List ℕ → List ℕ → Logging
+loggingOf log first inactive direction space address left offset slave master out =
     record {
       running =
-          runningBy (log .standing) (log .done) (log .full) inactive direction space address left offset slave master;
+          runningBy (log .standing) (ltb 0 (log .done) || first) (log .done) (log .full) inactive direction space address left offset slave master;
       page = page out (log .at);
     }
 

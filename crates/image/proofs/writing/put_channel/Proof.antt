@@ -38,7 +38,14 @@ put-one-requires-4 c κs =
     let thirteen = nine .before .before .before .before in
     let eighteen = thirteen .before .before .before .before .before in
     let ch = eighteen .before .before .before .before .args .channel in
-    omega (arith, bytes-most (eighteen .flag-number .result), bytes-most (ch .clock), bytes-most (nine .phase-number .result), asked-size (ch .asked), bytes-most (c .marks-number .result))
+    omega (
+      arith,
+      bytes-most (eighteen .flag-number .result),
+      bytes-most (ch .clock),
+      bytes-most (nine .phase-number .result),
+      asked-size (ch .asked),
+      bytes-most (c .marks-number .result),
+    )
 
 put-requests-requires : tie.Need-put-requests-requires
 put-requests-requires c κs =
@@ -48,7 +55,14 @@ put-requests-requires c κs =
     let seventeen = thirteen .before .before .before .before in
     let twenty-two = seventeen .before .before .before .before .before in
     let ch = twenty-two .before .before .before .before .args .channel in
-    omega (arith, bytes-most (twenty-two .flag-number .result), bytes-most (ch .clock), bytes-most (thirteen .phase-number .result), asked-size (ch .asked), bytes-most (four .marks-number .result))
+    omega (
+      arith,
+      bytes-most (twenty-two .flag-number .result),
+      bytes-most (ch .clock),
+      bytes-most (thirteen .phase-number .result),
+      asked-size (ch .asked),
+      bytes-most (four .marks-number .result),
+    )
 
 returns : tie.Need-returns
 returns c =

@@ -15,7 +15,7 @@ returns c =
     let full = (ap (λ (x : ℕ). ltb clockLimit (five .before .before .args .standing .clock + x))
     (sym (c .before .before .before .before .arbitration-time .ensures)) ∙ sym (c .before .before .before .is-full .ensures)
     ∙ c .before .before .if1 .taken) in
-    decides-full _ (a .standing) _ (a .left .now) (a .inactive .now) (five .enum-told .given .1) _
+    decides-full _ (a .standing) (a .ever) _ (a .left .now) (a .inactive .now) (five .enum-told .given .1) _
     full (c .stay .ensures ∙ rw (c .before .full-acted .ensures))
 
 choose-requires : tie.Need-choose-requires
@@ -33,7 +33,7 @@ returns-2 : tie.Need-returns-2
 returns-2 c =
     let five = c .before .before .before .before .before in
     let a = five .before .before .args in
-    decides-rest _ (a .standing) (a .request) (a .left .now) (a .inactive .now) _
+    decides-rest _ (a .standing) (a .ever) (a .request) (a .left .now) (a .inactive .now) _
     (five .phase .given .1) _ (eq-eqb _ 0 (c .before .before .if2 .taken))
     (c .stay3 .ensures ∙ rw (c .before .rest-acted .ensures))
 
@@ -41,7 +41,7 @@ returns-3 : tie.Need-returns-3
 returns-3 c =
     let five = c .before .before .before .before .before in
     let a = five .before .before .before .before .args in
-    decides-late _ (a .standing) (a .request) (a .left .now) (a .inactive .now) _
+    decides-late _ (a .standing) (a .ever) (a .request) (a .left .now) (a .inactive .now) _
     (five .before .before .phase .given .1)
     (ne-eqb _ 0 (c .before .before .before .before .if2 .left)) _
     (sym (c .before .before .before .is-full2 .ensures) ∙ c .before .before .if3 .taken)
@@ -64,7 +64,7 @@ returns-4 : tie.Need-returns-4
 returns-4 c =
     let five = c .before .before .before .before .before in
     let a = five .before .before .before .before .args in
-    decides-grant _ (a .standing) _ (a .left .now) (a .inactive .now)
+    decides-grant _ (a .standing) (a .ever) _ (a .left .now) (a .inactive .now)
     (five .before .before .enum-told .given .1) _ _ _ _
     (ap (λ (x : ℕ). ltb clockLimit (five .before .before .before .before .args .standing .clock + x))
     (sym (five .before .arbitration-time .ensures))
@@ -76,7 +76,7 @@ returns-5 : tie.Need-returns-5
 returns-5 c =
     let five = c .before .before .before .before .before in
     let a = five .before .before .before .before .args in
-    decides-cycle _ (a .standing) (a .request) (a .left .now) (a .inactive .now) _
+    decides-cycle _ (a .standing) (a .ever) (a .request) (a .left .now) (a .inactive .now) _
     (five .before .before .phase .given .1)
     (ne-eqb _ 0 (c .before .before .before .before .if2 .left)) _ _
     (sym (c .before .before .before .is-full2 .ensures) ∙ c .before .before .if3 .left) (c .cycle-decided .ensures .0)

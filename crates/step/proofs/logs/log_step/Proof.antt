@@ -14,15 +14,15 @@ act-on-requires : tie.Need-act-on-requires
 act-on-requires c κs =
     let five = c .before .before .before .before .before in
     let ten = five .before .before .before .before .before in
-    let p = ten .before .before .pre in
-    acts-at _ _ (p .1) _ (p .0) _ (c .before .before .slot-at .ensures)
+    let p = ten .before .before .before .pre in
+    acts-at _ _ (p .1) _ (p .0) _ (c .before .before .before .slot-at .ensures)
 
 put-slot-requires : tie.Need-put-slot-requires
 put-slot-requires c κs =
     let five = c .before .before .before .before .before in
     let ten = five .before .before .before .before .before in
     let fifteen = ten .before .before .before .before .before in
-    let p = fifteen .before .before .before .before .pre in
+    let p = fifteen .before .before .before .before .before .pre in
     rw (p .0) (p .1 .place)
 
 carry-requires : tie.Need-carry-requires
@@ -31,8 +31,8 @@ carry-requires c κs =
     let ten = five .before .before .before .before .before in
     let fifteen = ten .before .before .before .before .before in
     let twenty = fifteen .before .before .before .before .before in
-    let p = twenty .before .before .before .pre in
-    room-at _ _ (p .1) _ (p .0) _ (ten .before .before .before .slot-at .ensures) _ (ten .act-on .ensures .0)
+    let p = twenty .before .before .before .before .pre in
+    room-at _ _ (p .1) _ (p .0) _ (ten .before .before .before .before .slot-at .ensures) _ (ten .act-on .ensures .0)
 
 returns : tie.Need-returns
 returns c =
@@ -42,18 +42,18 @@ returns c =
     let twenty = fifteen .before .before .before .before .before in
     let twenty-five = twenty .before .before .before .before .before in
     let thirty = twenty-five .before .before .before .before .before in
-    let a = thirty .before .before .args in
-    let p = thirty .before .before .pre in
+    let a = thirty .before .before .before .args in
+    let p = thirty .before .before .before .pre in
     let d = fifteen .before .before .before .before .act-on .ensures in
     let slots = ten .before .before .put-slot .ensures in
     let k = five .before .before .before .carry .ensures in
     rw (slots .0, slots .1 .0, slots .1 .1 .0, slots .1 .1 .1 .0, slots .1 .1 .1 .1)
-    (log-full (a .route) (a .log) (a .inactive .now) (a .direction .now) (a .space .now) (a .address .now) (a .left .now)
-    (a .offset .now) (a .slave .now) (a .master .now) (a .out .now) _ (p .0) _ (twenty .before .before .slot-at .ensures)
+    (log-full (a .route) (a .log) (a .first) (a .inactive .now) (a .direction .now) (a .space .now) (a .address .now) (a .left .now)
+    (a .offset .now) (a .slave .now) (a .master .now) (a .out .now) _ (p .0) _ (twenty .before .before .before .slot-at .ensures)
     _ _ (d .0) (d .1) _ _ (k .0, k .1) _ (c .enum-told .given .1))
 
-add-t42 : tie.Need-add-t42
-add-t42 c =
+add-t45 : tie.Need-add-t45
+add-t45 c =
     let five = c .before .before .before .before .before in
     let ten = five .before .before .before .before .before in
     let fifteen = ten .before .before .before .before .before in
@@ -61,7 +61,7 @@ add-t42 c =
     let twenty-five = twenty .before .before .before .before .before in
     let thirty = twenty-five .before .before .before .before .before in
     let thirty-five = thirty .before .before .before .before .before in
-    omega (arith, thirty-five .before .before .before .pre .1 .more)
+    omega (arith, thirty-five .before .before .before .before .pre .1 .more)
 
 returns-2 : tie.Need-returns-2
 returns-2 c =
@@ -72,14 +72,14 @@ returns-2 c =
     let twenty-five = twenty .before .before .before .before .before in
     let thirty = twenty-five .before .before .before .before .before in
     let thirty-five = thirty .before .before .before .before .before in
-    let a = thirty-five .before .before .before .args in
-    let p = thirty-five .before .before .before .pre in
+    let a = thirty-five .before .before .before .before .args in
+    let p = thirty-five .before .before .before .before .pre in
     let d = twenty-five .act-on .ensures in
     let slots = fifteen .before .before .before .put-slot .ensures in
     let k = ten .before .before .before .before .carry .ensures in
     rw (slots .0, slots .1 .0, slots .1 .1 .0, slots .1 .1 .1 .0, slots .1 .1 .1 .1)
-    (log-done (a .route) (a .log) (a .inactive .now) (a .direction .now) (a .space .now) (a .address .now) (a .left .now)
-    (a .offset .now) (a .slave .now) (a .master .now) (a .out .now) _ (p .0) _ (twenty-five .before .before .before .slot-at .ensures)
+    (log-done (a .route) (a .log) (a .first) (a .inactive .now) (a .direction .now) (a .space .now) (a .address .now) (a .left .now)
+    (a .offset .now) (a .slave .now) (a .master .now) (a .out .now) _ (p .0) _ (twenty-five .before .before .before .before .slot-at .ensures)
     _ _ (d .0) (d .1) _ _ (k .0, k .1) _ _ _ (five .before .answer .given .1)
     (c .before .before .before .put-entry .ensures .0) (c .before .before .before .put-entry .ensures .1))
 
@@ -97,7 +97,7 @@ log-step-spec =
     (λ c. search needs)  -- same-length-2
     returns
     (λ c κs. search needs)  -- put-entry-requires
-    add-t42
+    add-t45
     (λ c. search needs)  -- same-length-3
     (λ c. search needs)  -- same-length-4
     (λ c. search needs)  -- same-length-5

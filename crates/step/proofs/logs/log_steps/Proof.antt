@@ -10,19 +10,19 @@ use Rattle.step.proofs.logs.log_steps.Statement.{statement}
 use Rattle.step.proofs.logs.log_steps.Tie as tie
 
 abbrev Inv-loop : tie.InvT-loop
-Inv-loop slave₀ master₀ out₀ at budget inactive₀ direction₀ space₀ address₀ left₀ offset₀ routes log₀ slave master out inactive direction
-    space address left offset log =
+Inv-loop slave₀ master₀ out₀ at budget inactive₀ direction₀ space₀ address₀ left₀ offset₀ routes log₀ first slave master out inactive
+    direction space address left offset log =
     (length slave ≡ length slave₀)
     × (length master ≡ length master₀)
     × (length out ≡ length out₀)
     × ((setup : Setup)
-    → Going setup routes (loggingOf log₀ inactive₀ direction₀ space₀ address₀ left₀ offset₀ slave₀ master₀ out₀ .running)
-    → Logs setup budget routes (loggingOf log₀ inactive₀ direction₀ space₀ address₀ left₀ offset₀ slave₀ master₀ out₀)
-    (loggingOf log inactive direction space address left offset slave master out))
+    → Going setup routes (loggingOf log₀ first inactive₀ direction₀ space₀ address₀ left₀ offset₀ slave₀ master₀ out₀ .running)
+    → Logs setup budget routes (loggingOf log₀ first inactive₀ direction₀ space₀ address₀ left₀ offset₀ slave₀ master₀ out₀)
+    (loggingOf log first inactive direction space address left offset slave master out))
 
 abbrev μ-loop : tie.MeasureT-loop
-μ-loop slave₀ master₀ out₀ at budget inactive₀ direction₀ space₀ address₀ left₀ offset₀ routes log₀ slave master out inactive direction
-    space address left offset log =
+μ-loop slave₀ master₀ out₀ at budget inactive₀ direction₀ space₀ address₀ left₀ offset₀ routes log₀ first slave master out inactive
+    direction space address left offset log =
     nearness budget (log .full) (log .done)
 
 loop-holds : tie.Need-loop-holds Inv-loop μ-loop
@@ -98,7 +98,7 @@ loop-again c =
     let s = thirty-five .before .before .before .before in
     let l = twenty .before .before .before .loop in
     let more = goes (l .log .done) (s .args .budget) (l .log .full) _ (fifteen .before .before .before .before .if1 .taken) in
-    let n = five .before .log-step .kept .1 .1 .1 .1 .1 .1 .1 .1 .1 in (
+    let n = five .before .log-step .kept .1 .1 .1 .1 .1 .1 .1 .1 .1 .1 in (
       n .0 ∙ l .inv .0,
       n .1 .0 ∙ l .inv .1,
       n .1 .1 .0 ∙ l .inv .2,
@@ -110,17 +110,17 @@ loop-again c =
 same-length : tie.Need-same-length Inv-loop μ-loop
 same-length c =
     let five = c .before .before .before .before .before in
-    five .before .before .before .loop .inv .0
+    five .before .before .before .before .loop .inv .0
 
 same-length-2 : tie.Need-same-length-2 Inv-loop μ-loop
 same-length-2 c =
     let five = c .before .before .before .before .before in
-    five .before .before .before .loop .inv .1
+    five .before .before .before .before .loop .inv .1
 
 same-length-3 : tie.Need-same-length-3 Inv-loop μ-loop
 same-length-3 c =
     let five = c .before .before .before .before .before in
-    five .before .before .before .loop .inv .2
+    five .before .before .before .before .loop .inv .2
 
 returns : tie.Need-returns Inv-loop μ-loop
 returns c =
@@ -128,13 +128,13 @@ returns c =
     let ten = five .before .before .before .before .before in
     let fifteen = ten .before .before .before .before .before in
     let twenty = fifteen .before .before .before .before .before in
-    let s = twenty .before .before .before .before in
-    let l = five .before .before .before .loop in
+    let s = twenty .before .before .before .before .before in
+    let l = five .before .before .before .before .loop in
     let logs = l .inv .3 (s .args .setup)
-    (record { ready = s .pre .0; shaped = s .pre .1 .0; routed = five .before .before .before .before .routes-of .ensures }) in
-    let e = sym (log-finished _ _ _ _ (five .has-room .ensures) (c .before .before .before .before .if1 .left) (logs .least)) ∙ logs .same
+    (record { ready = s .pre .0; shaped = s .pre .1 .0; routed = five .before .before .before .before .before .routes-of .ensures }) in
+    let e = sym (log-finished _ _ _ _ (five .before .has-room .ensures) (five .if1 .left) (logs .least)) ∙ logs .same
     ∙ log-first _ _ _ refl refl in (
-      rw (c .channel-of .ensures, c .before .verdict-of .ensures) (ap (λ (x : LoggedOut). x .result) e),
+      rw (c .channel-of .ensures, c .before .before .verdict-of .ensures) (ap (λ (x : LoggedOut). x .result) e),
       (
         ap (λ (x : LoggedOut). x .slave) e,
         (ap (λ (x : LoggedOut). x .master) e, ap (λ (x : LoggedOut). x .out) e),

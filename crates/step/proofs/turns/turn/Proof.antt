@@ -1,4 +1,5 @@
 use lib.ListN.{getD}
+use mathlib.Core.Bool.{true}
 use Rattle.basics.specs.Limits.{clockLimit}
 use Rattle.channel.specs.declared.Request.{Request}
 use mathlib.Core.Path.{_≡_, refl, sym, ap, _∙_}
@@ -17,7 +18,7 @@ returns c =
     let a = five .before .before .before .args in
     let full = (ap (λ (x : ℕ). ltb clockLimit (five .before .before .before .args .state .standing .clock + x))
     (sym (c .before .before .arbitration-time .ensures)) ∙ sym (c .before .is-full .ensures) ∙ c .if1 .taken) in (
-      turn-full (a .route) (a .budget) (a .state) (a .inactive .now) (a .direction .now) (a .space .now) (a .address .now) (a .left .now)
+      turn-full (a .route) (a .budget) (a .state) true (a .inactive .now) (a .direction .now) (a .space .now) (a .address .now) (a .left .now)
           (a .offset .now) (a .slave .now) (a .master .now) (c .before .before .before .enum-told .given .1)
           (a .state .low) full,
       five .before .before .before .pre .lows,
@@ -59,7 +60,7 @@ returns-2 c =
     let p = ten .before .phase .given .1 in
     let none = sym (ap (λ (q : Request). q .left) (c .before .before .before .before .slot-at .ensures))
     ∙ c .before .before .if2 .taken in (
-      turn-rest (a .route) (a .budget) (a .state) (a .inactive .now) (a .direction .now) (a .space .now) (a .address .now) (a .left .now)
+      turn-rest (a .route) (a .budget) (a .state) true (a .inactive .now) (a .direction .now) (a .space .now) (a .address .now) (a .left .now)
           (a .offset .now) (a .slave .now) (a .master .now) _ p _ _ _ none (c .before .rest-acted .ensures) (c .stepped-on2 .ensures),
       lows-rest _ _ _ (fifteen .before .pre .lows) _ _ (a .state .standing) _ _ refl (c .before .rest-acted .ensures) (c .stepped-on2 .ensures),
     )
@@ -85,10 +86,10 @@ returns-3 c =
     let i = c .before .before .choose .ensures in
     let room = (ap (λ (x : ℕ). ltb clockLimit (ten .before .before .before .args .state .standing .clock + x))
     (sym (five .before .before .arbitration-time .ensures)) ∙ sym (five .before .is-full .ensures) ∙ five .if1 .left) in (
-      turn-grant (a .route) (a .budget) (a .state) (a .inactive .now) (a .direction .now) (a .space .now) (a .address .now) (a .left .now)
+      turn-grant (a .route) (a .budget) (a .state) true (a .inactive .now) (a .direction .now) (a .space .now) (a .address .now) (a .left .now)
           (a .offset .now) (a .slave .now) (a .master .now) (five .before .before .before .enum-told .given .1) _ _ _ _ _ room i
           (c .before .granted-by .ensures) (c .stepped-on .ensures),
-      lows-grant _ _ _ (ten .before .before .before .pre .lows) _ _ (a .state .standing) _ _ _ i (c .before .granted-by .ensures)
+      lows-grant _ _ _ (ten .before .before .before .pre .lows) _ _ (a .state .standing) true _ _ _ i (c .before .granted-by .ensures)
           (c .stepped-on .ensures),
     )
 
@@ -104,9 +105,9 @@ returns-4 c =
     let k = c .before .before .before .before .run-cycles .ensures in
     let q = fifteen .slot-at .ensures in
     let some : getD (a .left .now) _ 0 ≡ 0 → ⊥ = λ z. ten .before .before .before .if2 .left (ap (λ (x : Request). x .left) q ∙ z) in (
-      turn-cycles (a .route) (a .budget) (a .state) (a .inactive .now) (a .direction .now) (a .space .now) (a .address .now) (a .left .now)
+      turn-cycles (a .route) (a .budget) (a .state) true (a .inactive .now) (a .direction .now) (a .space .now) (a .address .now) (a .left .now)
           (a .offset .now) (a .slave .now) (a .master .now) _ p _ some (k .0),
-      lows-cycles (a .route) (a .budget) _ _ _ (runningOf (a .state) (a .inactive .now) (a .direction .now) (a .space .now)
+      lows-cycles (a .route) (a .budget) _ _ _ (runningOf (a .state) true (a .inactive .now) (a .direction .now) (a .space .now)
           (a .address .now) (a .left .now) (a .offset .now) (a .slave .now) (a .master .now))
           (twenty-five .before .before .pre .lows) p (rw (ne-eqb _ 0 some)) _ _ (k .1) (k .0),
     )
