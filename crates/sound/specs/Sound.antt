@@ -24,10 +24,11 @@ use Rattle.channel.specs.Channel.{isArbitrating, hasRequest, requestOf}
 use Rattle.channel.specs.Line.{isInactive, line}
 use Rattle.sound.specs.Request.{requestVerdict, transferOf}
 
--- document 02, CR 2: "a channel never granted is unsound if it is granted now, has a mark or has a clock above 0"
+-- no level has a mark
 unfoldable pub areUnmarked : List Bool → Bool
 areUnmarked inactive = allBelow (λ (l : ℕ). not (isInactive inactive l)) places
 
+-- document 02, CR 2: "a channel never granted is unsound if it is granted now, has a mark or has a clock above 0"
 unfoldable pub isNeverGrantedSound : Bool → Phase → ℕ → List Bool → Bool
 isNeverGrantedSound ever phase clock inactive = ever || (isArbitrating phase && (areUnmarked inactive && eqb clock 0))
 
