@@ -39,8 +39,8 @@ one_cycle a b e =
       address = at 3 e i;
       bytes = at 4 e i;
       direction = at 5 e i;
-      master_lane_lem = at 6 e i;
-      slave_lane_lem = at 7 e i;
+      master_lane = at 6 e i;
+      slave_lane = at 7 e i;
       ending = ending i;
     }
 

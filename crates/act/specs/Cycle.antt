@@ -150,8 +150,8 @@ cycle_entry route ch owner direction c =
       address = c.address;
       bytes = c.bytes;
       direction = direction;
-      master_lane_lem = master_lane route.width c.address;
-      slave_lane_lem = slave_lane c.port c.address;
+      master_lane = master_lane route.width c.address;
+      slave_lane = slave_lane c.port c.address;
       ending = ending_at route ch c;
     }
 

@@ -1,5 +1,7 @@
 // The decisions of a step (document 01, "One step"): where a request's bytes go, whether the owner releases at the end of a
 // transfer and is marked, how long an arbitration takes. Log entries are declared here.
+#![tactic(auto)]
+
 ghost use Rattle.std.specs.Prelude.{◌≡◌};
 ghost use Rattle.act.specs.Cycle.{route_of, released_by, is_kept, is_marked};
 ghost use Rattle.act.specs.Turn.{arbitration_time};
@@ -9,7 +11,7 @@ use frame::{FoundSlave, Setup};
 
 // Where the owner's bytes go: what its row and the slave's say, how long after its asked time an owner's transfers may go on,
 // and where the slave row's bytes start in the slave store (last, so that no room is left between the fields).
-#[derive(Drop)]
+#[derive(Clone, Copy)]
 pub struct Route {
     pub width: u32,
     pub options: u32,
@@ -21,21 +23,21 @@ pub struct Route {
 }
 
 // At a release: the clock less the asked time, or that there was none.
-#[derive(Drop)]
+#[derive(Clone, Copy)]
 pub enum Hold {
     Unasked,
     After(u32),
 }
 
 // How a cycle ends: the owner keeps the channel, releases it, or releases it and is marked inactive.
-#[derive(Drop)]
+#[derive(Clone, Copy)]
 pub enum Ending {
     Kept,
     Released(Hold),
     Marked(u32),
 }
 
-#[derive(Drop)]
+#[derive(Clone, Copy)]
 pub struct CycleEntry {
     pub clock: u32,
     pub level: u8,
@@ -48,7 +50,7 @@ pub struct CycleEntry {
 }
 
 // A log entry: what the step's log line shows, and the hold at a release.
-#[derive(Drop)]
+#[derive(Clone, Copy)]
 pub enum Entry {
     Idle(u32),
     Grant(u32, u8),

@@ -2,6 +2,8 @@
 // lowest first, and a sheet. As many times the sheet's events are gone through from a fresh channel: a post is posted, and a
 // step event is one `run`, or with an argument as many single steps. Then the last channel, the tally and digests of both
 // stores are printed, so that another program can be compared with it.
+#![tactic(auto)]
+
 use basics::PLACES;
 use channel::{Asked, Channel};
 use frame::{Order, Setup};
@@ -10,7 +12,7 @@ use sheet::SheetAnswer;
 use sheetlist::Event;
 use tally::Tally;
 
-#[derive(Drop)]
+#[derive(Clone, Copy)]
 struct Session {
     channel: Channel,
     tally: Tally,

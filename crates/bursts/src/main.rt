@@ -1,5 +1,7 @@
 // The examples of document 01, "Both sides of the line", that are run and compared: a burst that lingers, asked at its
 // grant, holds the channel for exactly 7,800 ns; and nothing wraps at the end of the address space.
+#![tactic(auto)]
+
 ghost use Rattle.std.specs.Prelude.{◌≡◌};
 ghost use Rattle.step.specs.Run.{world, run_of};
 

@@ -1,5 +1,7 @@
 // The channel (document 01, "The frame", "The line rule"): its phase, asked time, clock, marks and requests; the line
 // -PREEMPT, the line rule, the winner of an arbitration, and the channel after set-up.
+#![tactic(auto)]
+
 ghost use Rattle.std.specs.Prelude.{◌≡◌};
 ghost use Rattle.channel.specs.Channel.{owner_of, owner_place, no_request, request_of, with_request, fresh_channel, set_up};
 ghost use Rattle.channel.specs.Line.{line_active, winner_from, clear_marks, asked_now, set_asked, line_rule, asked_if};
@@ -10,14 +12,14 @@ use frame::{FoundSlave, Setup, SlaveRow, SlaveRows};
 use refusal::{Refusal, Verdict};
 
 // The channel is arbitrating, or granted to one level.
-#[derive(Drop)]
+#[derive(Clone, Copy)]
 pub enum Phase {
     Arbitrating,
     Granted(u8),
 }
 
 // While granted, perhaps an asked time. A time of 0 is not the same as none.
-#[derive(Drop)]
+#[derive(Clone, Copy)]
 pub enum Asked {
     Never,
     At(u32),
@@ -25,7 +27,7 @@ pub enum Asked {
 
 // `ever` says whether the channel has ever been granted: the first arbitration after set-up is shorter. The request arrays are
 // indexed by level number. A level whose `left` is 0 has no open request, and zeros in the others.
-#[derive(Drop)]
+#[derive(Clone, Copy)]
 pub struct Channel {
     pub phase: Phase,
     pub asked: Asked,
@@ -40,7 +42,7 @@ pub struct Channel {
 }
 
 // What is left of a request, or a request that is posted.
-#[derive(Drop)]
+#[derive(Clone, Copy)]
 pub struct Request {
     pub direction: u32,
     pub space: u32,
@@ -50,7 +52,7 @@ pub struct Request {
 }
 
 // A channel that a call gives back, and whether the call was accepted.
-#[derive(Drop)]
+#[derive(Clone, Copy)]
 pub struct Judged {
     pub channel: Channel,
     pub verdict: Verdict,

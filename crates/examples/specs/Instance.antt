@@ -52,7 +52,7 @@ bytes_of7 = bytes_from 2 (record { direction = 0; space = 1; address = 4096; off
 
 abbrev pub cycle_by : ℕ → ℕ → ℕ → ℕ → ℕ → ℕ → ℕ → Ending → Entry
 cycle_by clock l a n d m s ending =
-    Cycle (record { clock = clock; level = l; address = a; bytes = n; direction = d; master_lane_lem = m; slave_lane_lem = s; ending = ending })
+    Cycle (record { clock = clock; level = l; address = a; bytes = n; direction = d; master_lane = m; slave_lane = s; ending = ending })
 
 abbrev pub entries : List Entry
 entries =

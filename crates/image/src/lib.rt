@@ -2,6 +2,8 @@
 // an image is judged (18); whether what was read makes sense (9) is judged by the call that is handed it.
 // `tables` reads the set-up's part, by `rows`, and `states` the channel's; `lists` has the set-up's numbers, and `writing` lays the
 // channel's bytes.
+#![tactic(auto)]
+
 mod lists;
 mod rows;
 mod states;
@@ -46,21 +48,21 @@ const SETUP_BYTES: usize = 665;
 const CHANNEL_BYTES: usize = 430;
 
 // A channel that was read, as far as that came, and the part of the image that it is.
-#[derive(Drop)]
+#[derive(Clone, Copy)]
 pub struct ChannelRead {
     pub channel: Channel,
     pub part: Part,
 }
 
 // The same of an asked time.
-#[derive(Drop)]
+#[derive(Clone, Copy)]
 pub struct AskedRead {
     pub asked: Asked,
     pub part: Part,
 }
 
 // What an image says; a malformed one has no rows and the channel after set-up.
-#[derive(Drop)]
+#[derive(Clone, Copy)]
 pub struct Imaged {
     pub setup: Setup,
     pub channel: Channel,

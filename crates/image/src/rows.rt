@@ -12,13 +12,13 @@ use numbers::Part;
 use refusal::Refusal;
 
 // A row that was read, or none, and the part of the image that it is.
-#[derive(Drop)]
+#[derive(Clone, Copy)]
 pub(crate) struct LevelRead {
     pub row: LevelRow,
     pub part: Part,
 }
 
-#[derive(Drop)]
+#[derive(Clone, Copy)]
 pub(crate) struct SlaveRead {
     pub row: SlaveRow,
     pub part: Part,

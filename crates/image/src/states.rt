@@ -18,7 +18,7 @@ use numbers::Part;
 use refusal::Refusal;
 
 // A request that was read, or none, and the part of the image that it is.
-#[derive(Drop)]
+#[derive(Clone, Copy)]
 pub(crate) struct RequestRead {
     pub request: Request,
     pub part: Part,

@@ -18,13 +18,13 @@ use numbers::Part;
 use sheet::RowsRead;
 
 // Level rows that were read, as far as that came, and the part of the image that they are; and slave rows.
-#[derive(Drop)]
+#[derive(Clone, Copy)]
 pub(crate) struct LevelsRead {
     pub levels: LevelRows,
     pub part: Part,
 }
 
-#[derive(Drop)]
+#[derive(Clone, Copy)]
 pub(crate) struct SlavesRead {
     pub slaves: SlaveRows,
     pub part: Part,

@@ -1,5 +1,7 @@
 // The step and the run with the tally that the host lends (document 01, "One step": "There is a tally the host lends").
 // Each gives back what the form by value gives, and leaves the new tally behind the reference.
+#![tactic(auto)]
+
 ghost use Rattle.std.specs.Prelude.{◌≡◌};
 ghost use Rattle.step.specs.Step.{step_of, slave_after, master_after};
 ghost use Rattle.step.specs.Run.{world, run_of};

@@ -10,7 +10,7 @@ use refusal::Refusal;
 use tally::Tally;
 
 // Whether an owner had been asked, and how long before its release; and how its cycle ended.
-#[derive(Drop)]
+#[derive(Clone, Copy)]
 struct Held {
     ending: u32,
     asked: u32,

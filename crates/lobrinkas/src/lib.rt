@@ -1,6 +1,7 @@
 // The calls of the archive (document 02, CR 1 and 3): set-up, post, step, run, cycle count and why a level waits, for a host in C,
 // over the image in memory of its own. What include/lobrinkas.h declares is what stands here. Each call reads the image, makes the plain call, and writes
 // the new image before a byte moves: where that has no room, nothing has happened.
+#![tactic(auto)]
 
 mod answers;
 mod finish;
@@ -18,7 +19,7 @@ use tally::Tally;
 
 // What a set-up or a post answers: the refusal or 0, the clock, the length of the image.
 #[repr(C)]
-#[derive(Drop)]
+#[derive(Clone, Copy)]
 pub struct Answer {
     pub refusal: u32,
     pub clock: u32,
@@ -28,7 +29,7 @@ pub struct Answer {
 // What a step answers: the refusal or 0, the letter of its log line, the length of the image, the line's fields in their
 // order, whether an owner that released had been asked and how long before, the tally.
 #[repr(C)]
-#[derive(Drop)]
+#[derive(Clone, Copy)]
 pub struct Stepped {
     pub refusal: u32,
     pub kind: u32,
@@ -49,7 +50,7 @@ pub struct Stepped {
 // What a run answers: the refusal or 0, 6 where the clock stopped it, the length of the image, the clock, the steps done, the
 // tally.
 #[repr(C)]
-#[derive(Drop)]
+#[derive(Clone, Copy)]
 pub struct Ran {
     pub refusal: u32,
     pub stop: u32,
@@ -61,7 +62,7 @@ pub struct Ran {
 
 // What a cycle count answers.
 #[repr(C)]
-#[derive(Drop)]
+#[derive(Clone, Copy)]
 pub struct Counted {
     pub refusal: u32,
     pub cycles: u32,
@@ -69,7 +70,7 @@ pub struct Counted {
 
 // Why a level waits: the refusal or 0, the reason's number, and the level that the reason names.
 #[repr(C)]
-#[derive(Drop)]
+#[derive(Clone, Copy)]
 pub struct Told {
     pub refusal: u32,
     pub reason: u32,

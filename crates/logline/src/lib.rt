@@ -1,4 +1,6 @@
 // The text of each log line (document 01, "One sheet, whole"), written into a lent buffer.
+#![tactic(auto)]
+
 ghost use Rattle.std.specs.Prelude.{◌≡◌, ◌+◌, ◌≤◌, leb, length};
 ghost use Rattle.std.proofs.lemmas.List.Edits.{sets};
 ghost use Rattle.logline.specs.Text.{digits, field, line_text_of, has_room, place_after, out_after, put_decimal, put_decimal_after};

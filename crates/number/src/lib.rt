@@ -1,5 +1,7 @@
 // One number of a sheet (document 01, "The job sheet"): one to five groups of seven bits, lowest first; the top bit of a
 // byte says that another follows; only the shortest form is valid.
+#![tactic(auto)]
+
 ghost use Rattle.std.specs.Prelude.{◌≡◌, ◌+◌, ◌≤◌, ◌<◌, drop, length, leb};
 ghost use Rattle.std.proofs.lemmas.List.Edits.{sets};
 ghost use Rattle.number.specs.Number.{groups, below, read_number, bytes_of, write_number, write_number_after, number_size};
@@ -7,14 +9,14 @@ ghost use Rattle.number.specs.Number.{groups, below, read_number, bytes_of, writ
 use refusal::Refusal;
 
 // What stands at a place: a value and the place past it, or why there is no number, and the place where it starts.
-#[derive(Drop)]
+#[derive(Clone, Copy)]
 pub enum NumberRead {
     Number(u32, usize),
     Refused(Refusal, usize),
 }
 
 // The place past a number that was written, or that there was no room for it.
-#[derive(Drop)]
+#[derive(Clone, Copy)]
 pub enum NumberWritten {
     Past(usize),
     Refused(Refusal),

@@ -1,5 +1,7 @@
 // Numbers in a row (document 01, "The job sheet": a sheet is "a row of numbers"), from their bytes or from a list. Whoever
 // judges such a row reads it through one source, and so judges bytes and a list alike.
+#![tactic(auto)]
+
 ghost use Rattle.std.specs.Prelude.{◌≡◌, ◌+◌, ◌≤◌, length, leb};
 ghost use Rattle.std.proofs.lemmas.List.Edits.{sets};
 ghost use Rattle.basics.specs.Limits.{numbers_most};
@@ -11,14 +13,14 @@ use number::{NumberRead, NumberWritten};
 use refusal::Refusal;
 
 // A part of a row as its judge finds it: good, with the place after it; or its first fault, with the fault's place.
-#[derive(Drop)]
+#[derive(Clone, Copy)]
 pub enum Part {
     Good(usize),
     Fault(Refusal, usize),
 }
 
 // Up to six numbers, as far as they can be read; the places after them hold 0.
-#[derive(Drop)]
+#[derive(Clone, Copy)]
 pub struct Taken {
     pub values: [u32; NUMBERS_MOST],
     pub part: Part,

@@ -1,5 +1,7 @@
 // The post (document 01, "The frame", "Refusal numbers"): refusals 9, 1, 2, 3, 4, 5, in that order, or the request in the
 // level's place and then the line rule.
+#![tactic(auto)]
+
 ghost use Rattle.std.specs.Prelude.{◌≡◌};
 ghost use Rattle.post.specs.Post.{request_in, order_verdict, post_verdict, posted, post_of};
 

@@ -1,5 +1,7 @@
 // The job sheet (document 01, "The job sheet"): its reader, from bytes to the list of its numbers, and its writer, from
 // the list to bytes. One judge serves both: it reads numbers from the bytes or from the list.
+#![tactic(auto)]
+
 ghost use Rattle.std.specs.Prelude.{◌≡◌, ◌≤◌, length};
 ghost use Rattle.basics.specs.Limits.{rows_most};
 ghost use Rattle.numbers.specs.Numbers.{number_at, length_of};
@@ -14,14 +16,14 @@ use numbers::Part;
 use refusal::Refusal;
 
 // Rows that were read: the set-up with them, as far as that came, and the part of the sheet that they are.
-#[derive(Drop)]
+#[derive(Clone, Copy)]
 pub struct RowsRead {
     pub setup: Setup,
     pub part: Part,
 }
 
 // What the reader and the writer answer: the length of the result; or the refusal, with its place.
-#[derive(Drop)]
+#[derive(Clone, Copy)]
 pub enum SheetAnswer {
     Done(usize),
     Refused(Refusal, usize),

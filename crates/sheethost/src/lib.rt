@@ -1,5 +1,7 @@
 // What a program that runs a sheet needs beside our calls: the two stores at the start, their digests, and a number in four
 // bytes.
+#![tactic(auto)]
+
 ghost use Rattle.std.specs.Prelude.{◌<◌, ◌≡◌, length};
 ghost use Rattle.sheethost.specs.Host.{master_store, slave_store, digest_of, four_bytes};
 

@@ -1,5 +1,7 @@
 // What the list of a valid sheet holds (document 01, "The job sheet"): its set-up and its events. Every call takes any
 // list; of one that no valid sheet has, the answer is of no interest.
+#![tactic(auto)]
+
 ghost use Rattle.std.specs.Prelude.{◌≡◌, ◌+◌, ◌≤◌, ◌<◌, length, get_or};
 ghost use Rattle.sheetlist.specs.Held.{events_from, setup_of};
 ghost use Rattle.sheetlist.specs.Held.{event_count, first_event, post_at, event_at, next_event, event_of};
@@ -8,7 +10,7 @@ use frame::{Order, Setup};
 use numbers::Part;
 
 // A number of steps, or a post.
-#[derive(Drop)]
+#[derive(Clone, Copy)]
 pub enum Event {
     Steps(u32),
     Post(Order),

@@ -3,6 +3,8 @@
 // after each log a line with a digest of both stores and the tally, so that another program can be compared with it sheet by
 // sheet. With --why and a level it prints in the place of the log after each event why that level waits (document 02, CR 3), and
 // with --many-why, of many sheets, why each level does.
+#![tactic(auto)]
+
 mod answers;
 mod log;
 mod streams;
@@ -18,7 +20,7 @@ const ASKED: [u32; 19] = [
 ];
 
 // What stands before the next sheet of many, or before the bytes of one.
-#[derive(Drop)]
+#[derive(Clone, Copy)]
 enum Next {
     End,
     Failed,

@@ -12,7 +12,7 @@ use sheetlist::Event;
 use tally::Tally;
 
 // The channel and the tally as the log goes on, how much of the buffer is filled, and whether a write has failed.
-#[derive(Drop)]
+#[derive(Clone, Copy)]
 pub(crate) struct Session {
     pub(crate) channel: Channel,
     pub(crate) tally: Tally,
@@ -21,7 +21,7 @@ pub(crate) struct Session {
 }
 
 // How much of the buffer is filled, or that it could not be written.
-#[derive(Drop)]
+#[derive(Clone, Copy)]
 pub(crate) enum Kept {
     Failed,
     Filled(usize),

@@ -9,7 +9,7 @@ use libc::{STDERR_FILENO, STDIN_FILENO, STDOUT_FILENO};
 const TURNS: u64 = 18446744073709551615;
 
 // How many bytes were moved, and whether that ended because a call failed.
-#[derive(Drop)]
+#[derive(Clone, Copy)]
 pub(crate) struct Moved {
     pub(crate) bytes: usize,
     pub(crate) failed: bool,

@@ -1,7 +1,7 @@
 // The arguments of the program: a word of its own, or the number of a level.
 
 // The level that an argument names; any number may be one.
-#[derive(Drop)]
+#[derive(Clone, Copy)]
 pub(crate) enum Level {
     Bad,
     Any(u32),

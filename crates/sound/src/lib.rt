@@ -1,5 +1,7 @@
 // The test for an unsound channel (document 01, "Refusal numbers"), and what a request, posted or open, may meet: refusals
 // 3, 4 and 5.
+#![tactic(auto)]
+
 ghost use Rattle.std.specs.Prelude.{◌≡◌, ◌<◌, ◌+◌, leb, ltb};
 ghost use Rattle.basics.specs.Limits.{places, clock_limit};
 ghost use Rattle.sound.specs.Request.{is_in_range, request_verdict, transfer_of};
@@ -73,7 +75,7 @@ fn is_blank(request: Request) -> bool
 
 // Which levels the set-up has, and which of them are fair, by level number. A search of the rows for each level would
 // copy them each time.
-#[derive(Drop)]
+#[derive(Clone, Copy)]
 struct Members {
     present: [bool; PLACES],
     fair: [bool; PLACES],
@@ -106,7 +108,7 @@ fn members_of(levels: LevelRows) -> Members
 }
 
 // The same of rows that keep the frame, and whether they do: one pass for both.
-#[derive(Drop)]
+#[derive(Clone, Copy)]
 struct Seats {
     fits: bool,
     present: [bool; PLACES],

@@ -21,7 +21,7 @@ use refusal::Refusal;
 use tally::Tally;
 
 // What a step changes beside the channel's arrays and the stores.
-#[derive(Drop)]
+#[derive(Clone, Copy)]
 pub(crate) struct Standing {
     pub phase: Phase,
     pub asked: Asked,
@@ -30,14 +30,14 @@ pub(crate) struct Standing {
 }
 
 // The same after a step, and its answer.
-#[derive(Drop)]
+#[derive(Clone, Copy)]
 pub(crate) struct Acted {
     pub standing: Standing,
     pub answer: StepAnswer,
 }
 
 // A step but for the marks, which it changes in place: the owner's slot after it, and what it moves.
-#[derive(Drop)]
+#[derive(Clone, Copy)]
 pub(crate) struct Decided {
     pub acted: Acted,
     pub slot: Request,
@@ -45,7 +45,7 @@ pub(crate) struct Decided {
 }
 
 // Who wins an arbitration, whether the line is active after the grant, and a level below which nobody waits then.
-#[derive(Drop)]
+#[derive(Clone, Copy)]
 pub(crate) struct Chosen {
     pub winner: u8,
     pub active: bool,

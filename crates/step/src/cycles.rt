@@ -13,7 +13,7 @@ use act::{Ending, Route};
 use channel::{Asked, Request};
 
 // What a cycle leaves of its request, and how it ends.
-#[derive(Drop)]
+#[derive(Clone, Copy)]
 pub(crate) struct Left {
     pub rest: Request,
     pub ending: Ending,

@@ -2,6 +2,8 @@
 // step does; the decision, which is the whole step but for its bytes; the step, which is the decision and its carrying; the
 // run. All work on the channel's arrays as locals, in place: a channel passed on by value is copied each time.
 // `acts` has what a step does, `cycles` one cycle of an owner, `turns` how a run goes on.
+#![tactic(auto)]
+
 mod acts;
 mod cycles;
 mod logs;
@@ -29,7 +31,7 @@ use tally::Tally;
 use turns::run_steps;
 
 // What a step is going to do.
-#[derive(Drop)]
+#[derive(Clone, Copy)]
 pub enum Plan {
     Idle,
     Refused(Refusal),
@@ -38,14 +40,14 @@ pub enum Plan {
     Cycle(u8),
 }
 
-#[derive(Drop)]
+#[derive(Clone, Copy)]
 pub enum StepAnswer {
     Done(Entry),
     Refused(Refusal),
 }
 
 // The channel and the tally after a step, and its entry or why it was refused.
-#[derive(Drop)]
+#[derive(Clone, Copy)]
 pub struct Stepped {
     pub channel: Channel,
     pub tally: Tally,
@@ -54,7 +56,7 @@ pub struct Stepped {
 
 // What a step moves: `bytes` bytes between a place in the slave store and an offset in the master store, to the master where
 // the direction is 0.
-#[derive(Drop)]
+#[derive(Clone, Copy)]
 pub struct Carry {
     pub direction: u32,
     pub place: usize,
@@ -63,14 +65,14 @@ pub struct Carry {
 }
 
 // A step before its bytes are moved.
-#[derive(Drop)]
+#[derive(Clone, Copy)]
 pub struct Decision {
     pub stepped: Stepped,
     pub carry: Carry,
 }
 
 // The channel and the tally after a run, the steps done, and why it was refused or stopped, if it was.
-#[derive(Drop)]
+#[derive(Clone, Copy)]
 pub struct Ran {
     pub channel: Channel,
     pub tally: Tally,
@@ -79,7 +81,7 @@ pub struct Ran {
 }
 
 // A logged run, and where its lines end.
-#[derive(Drop)]
+#[derive(Clone, Copy)]
 pub struct Logged {
     pub ran: Ran,
     pub end: usize,

@@ -20,7 +20,7 @@ use tally::Tally;
 
 // A logged run: what stands after its last step, the steps done, whether the next one would pass the clock's limit, and where
 // the next line goes.
-#[derive(Drop)]
+#[derive(Clone, Copy)]
 struct Log {
     standing: Standing,
     done: u32,

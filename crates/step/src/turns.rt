@@ -27,7 +27,7 @@ use tally::Tally;
 
 // A run: what stands after its last turn, the steps done, whether the next one would pass the clock's limit, and a level
 // below which nobody waits.
-#[derive(Drop)]
+#[derive(Clone, Copy)]
 struct State {
     standing: Standing,
     done: u32,
@@ -36,7 +36,7 @@ struct State {
 }
 
 // An owner's cycles: the clock, what is left of its request, the tally, the steps done, and how the last cycle ended.
-#[derive(Drop)]
+#[derive(Clone, Copy)]
 struct Tenure {
     clock: u32,
     request: Request,

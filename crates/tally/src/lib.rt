@@ -1,12 +1,14 @@
 // The tally (document 01, "One step"): grants, cycles, bytes moved and the longest hold, by value
 // and as the host lends it.
+#![tactic(auto)]
+
 ghost use Rattle.std.specs.Prelude.{◌≡◌};
 ghost use Rattle.tally.specs.Tally.{no_tally, add_capped, larger_of, hold_figure, ending_figure, add_grant, add_cycle, add_release, add_entry};
 
 use act::{Ending, Entry, Hold};
 
 #[repr(C)]
-#[derive(Drop)]
+#[derive(Clone, Copy)]
 pub struct Tally {
     pub grants: u32,
     pub cycles: u32,

@@ -1,4 +1,6 @@
 // Why a level waits (document 02, CR 3): for a channel and a level the first that is true of seven reasons, or refusal 9.
+#![tactic(auto)]
+
 ghost use Rattle.std.specs.Prelude.{◌≡◌, not};
 ghost use Rattle.channel.specs.Channel.{is_arbitrating};
 ghost use Rattle.channel.specs.Line.{is_inactive};
@@ -11,7 +13,7 @@ use frame::{FramedStore, Setup};
 use refusal::{Refusal, Verdict};
 
 // What is true of a level, in the order in which it is told. The owner that holds and the winner are named.
-#[derive(Drop)]
+#[derive(Clone, Copy)]
 pub enum Reason {
     NotPresent,
     NoRequest,
@@ -23,7 +25,7 @@ pub enum Reason {
 }
 
 // The reason, or that the call was refused.
-#[derive(Drop)]
+#[derive(Clone, Copy)]
 pub struct Told {
     pub reason: Reason,
     pub verdict: Verdict,

@@ -1,4 +1,6 @@
 // The answer to "why is my card waiting?" in words (document 02, CR 3), a line in a lent buffer.
+#![tactic(auto)]
+
 ghost use Rattle.std.specs.Prelude.{◌≡◌, ◌++◌, ◌+◌, ◌≤◌, length};
 ghost use Rattle.std.proofs.lemmas.List.Edits.{sets};
 ghost use Rattle.logline.specs.Text.{place_after, out_after};

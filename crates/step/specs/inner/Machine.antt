@@ -169,8 +169,8 @@ cycle_acted route s o q ending =
             address = q.address;
             bytes = cycle_bytes route q;
             direction = q.direction;
-            master_lane_lem = master_lane route.width q.address;
-            slave_lane_lem = slave_lane route.port q.address;
+            master_lane = master_lane route.width q.address;
+            slave_lane = slave_lane route.port q.address;
             ending = ending;
           }));
     }

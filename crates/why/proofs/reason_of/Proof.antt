@@ -62,7 +62,7 @@ returns-5 c =
     let a = h.before.before.before.before.before.before.before.before.before.before.before.before.args in
     let u = unless a.setup a.t2 a.level h.before.before.before.before.is-present.ensures h.before.before.before.before.before.before.before.before.before.before.request-of.ensures h.before.before.is-owner.ensures
     h.before.is-marked.ensures c.before.before.before.before.if1.false c.before.before.before.if2.false c.before.before.if3.false c.before.if4.false in
-    ap Holds h.before.before.before.before.before.before.before.before.before.owner_of.ensures ∙ holds_at_last a.setup a.t2 a.level u (sym h.is_held_lem.ensures ∙ c.if5.true)
+    ap Holds h.before.before.before.before.before.before.before.before.before.owner_of.ensures ∙ holds_at_last a.setup a.t2 a.level u (sym h.is_held.ensures ∙ c.if5.true)
 
 returns-6 : tie.Need-returns-6
 returns-6 c =
@@ -70,7 +70,7 @@ returns-6 c =
     let a = h.before.before.before.before.before.before.before.before.before.before.before.before.args in
     let u = unless a.setup a.t2 a.level h.before.before.before.before.is-present.ensures h.before.before.before.before.before.before.before.before.before.before.request-of.ensures h.before.before.is-owner.ensures
     h.before.is-marked.ensures c.before.before.before.before.before.if1.false c.before.before.before.before.if2.false c.before.before.before.if3.false c.before.before.if4.false in
-    outranked_at_last a.setup a.t2 a.level u h.before.before.before.before.before.winner-from.ensures (sym h.is_held_lem.ensures ∙ c.before.if5.false) c.if6.true
+    outranked_at_last a.setup a.t2 a.level u h.before.before.before.before.before.winner-from.ensures (sym h.is_held.ensures ∙ c.before.if5.false) c.if6.true
 
 returns-7 : tie.Need-returns-7
 returns-7 c =
@@ -78,7 +78,7 @@ returns-7 c =
     let a = h.before.before.before.before.before.before.before.before.before.before.before.before.args in
     let u = unless a.setup a.t2 a.level h.before.before.before.before.is-present.ensures h.before.before.before.before.before.before.before.before.before.before.request-of.ensures h.before.before.is-owner.ensures
     h.before.is-marked.ensures c.before.before.before.before.before.if1.false c.before.before.before.before.if2.false c.before.before.before.if3.false c.before.before.if4.false in
-    wins_at_last a.setup a.t2 a.level u h.before.before.before.before.before.winner-from.ensures (sym h.is_held_lem.ensures ∙ c.before.if5.false) c.if6.false
+    wins_at_last a.setup a.t2 a.level u h.before.before.before.before.before.winner-from.ensures (sym h.is_held.ensures ∙ c.before.if5.false) c.if6.false
 
 pub reason-of-spec : {M : Type 1} → statement M
 reason-of-spec =

@@ -1,0 +1,16 @@
+use Prim.Native.Nat.{◌-◌, ◌≤◌}
+use Rattle.basics.proofs.ScanLaws.{any_hit, any_more}
+use Rattle.basics.specs.Limits.{places}
+use Rattle.basics.specs.Scan.{any_below}
+use Rattle.channel.specs.Line.{drives, line_active}
+use borrow.Author.Rules.{rules}
+use mathlib.Core.Bool.{false}
+use mathlib.Core.Path.{◌≡◌, refl, sym}
+use native.Mathlib.Omega.{arith}
+use Rattle.channel.proofs.line_active.Given as goal
+
+abbrev pub invariant-loop-level : goal.invariant-loop-level
+invariant-loop-level l = (l.level ≤ places) × (any_below (drives l.left l.inactive l.owner) l.level ≡ false)
+
+abbrev pub decreases-loop-level : goal.decreases-loop-level
+decreases-loop-level l = places - l.level

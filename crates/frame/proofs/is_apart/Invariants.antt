@@ -1,0 +1,15 @@
+use Prim.Native.Nat.{ℕ, ◌-◌, ◌≤◌}
+use Rattle.basics.proofs.ScanLaws.{all_more, all_miss}
+use Rattle.basics.specs.Scan.{all_below}
+use Rattle.frame.specs.Frame.{are_apart, is_apart, slave_at}
+use borrow.Author.Tests.{not-true, not-false}
+use mathlib.Core.Bool.{true}
+use mathlib.Core.Path.{◌≡◌, refl, sym, ◌∙◌}
+use native.Mathlib.Omega.{arith}
+use Rattle.frame.proofs.is_apart.Given as goal
+
+abbrev pub invariant-loop-j : goal.invariant-loop-j
+invariant-loop-j l = (l.j ≤ l.i) × (all_below (λ (k : ℕ). are_apart (slave_at l.slaves k) l.row) l.j ≡ true)
+
+abbrev pub decreases-loop-j : goal.decreases-loop-j
+decreases-loop-j l = l.i - l.j

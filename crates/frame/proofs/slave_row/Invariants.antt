@@ -1,0 +1,20 @@
+use Prim.Native.Nat.{ℕ, ◌-◌, ◌*◌, ◌≤◌}
+use Rattle.basics.proofs.ScanLaws.{first_miss}
+use Rattle.basics.specs.Limits.{rows_most, no_row}
+use Rattle.basics.specs.Scan.{first_from}
+use Rattle.frame.proofs.RowLaws.{slave_hit, slave_none, before_more}
+use Rattle.frame.specs.Find.{slave_index, row_holds}
+use Rattle.frame.specs.Frame.{slave_at, lengths_before}
+use borrow.Author.Rules.{rules}
+use mathlib.Core.Path.{◌≡◌, refl, sym, ◌∙◌}
+use native.Mathlib.Nat.{sub-zero}
+use native.Mathlib.Omega.{arith}
+use Rattle.frame.proofs.slave_row.Given as goal
+
+abbrev pub invariant-loop-i : goal.invariant-loop-i
+invariant-loop-i l =
+    (l.i ≤ l.count) × (l.count ≤ rows_most) × (l.start ≡ lengths_before l.slaves l.i) × (l.start ≤ l.i * 4294967295)
+    × (first_from (λ (k : ℕ). row_holds (slave_at l.slaves k) l.space l.address l.n) l.i (l.count - l.i) no_row ≡ slave_index l.slaves l.space l.address l.n)
+
+abbrev pub decreases-loop-i : goal.decreases-loop-i
+decreases-loop-i l = l.count - l.i

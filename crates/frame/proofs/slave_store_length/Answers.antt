@@ -1,0 +1,7 @@
+use Rattle.frame.specs.Find.{slave_store_length}
+use borrow.Author.Rules.{rules}
+use Rattle.frame.proofs.slave_store_length.Goals as goal
+
+pub returns : goal.returns
+unfolding slave_store_length
+returns c = rw (c.lengths_before.ensures.value, c.rows_present.ensures)

@@ -1,0 +1,25 @@
+use Prim.Native.Nat.{◌+◌, ◌-◌, ◌≤◌}
+use native.Mathlib.Omega.{arith}
+use borrow.Author.Tests.{eq-eqb, ne_eqb}
+use lib.ListN.{length, drop}
+use Rattle.number.specs.Number.{groups, below}
+use Rattle.number.proofs.LoopLaws.{
+  Turn,
+  first_turn,
+  no_turn,
+  fifth_turn,
+  fifth_fits,
+  last_turn,
+  last_fits,
+  next_turn,
+  next_fits,
+  weight_fits,
+}
+use Rattle.number.proofs.more_groups.Given as goal
+
+abbrev pub invariant-loop-at : goal.invariant-loop-at
+invariant-loop-at l =
+    (l.at ≤ length l.s) × Turn l.s l.start (below l.start l.first (groups l.start 3 (l.start + 1) (drop (l.start + 1) l.s))) l.at l.low l.weight
+
+abbrev pub decreases-loop-at : goal.decreases-loop-at
+decreases-loop-at l = length l.s - l.at

@@ -1,0 +1,21 @@
+use borrow.Author.Rules.{rules}
+use mathlib.Core.Path.{refl, sym, ◌∙◌}
+use native.Mathlib.Omega.{arith}
+use Rattle.number.specs.Number.{read_number}
+use Rattle.number.proofs.Laws.{last, more, read_end}
+use Rattle.number.proofs.read_number.Goals as goal
+
+pub returns-then-s-at : goal.returns-then-s-at
+returns-then-s-at c = let a = c.args in sym (read_end a.s.now a.at c.if-s-at.true)
+
+pub returns-then-byte-lt128 : goal.returns-then-byte-lt128
+unfolding read_number
+returns-then-byte-lt128 c =
+    let a = c.args in
+    sym (last a.at a.at a.s.now 4 (omega arith) (omega arith) c.if-byte-lt128.true)
+
+pub returns : goal.returns
+unfolding read_number
+returns c =
+    let a = c.args in
+    c.more_groups.ensures ∙ sym (more a.at a.at a.s.now 4 _ (omega arith) (omega arith) c.if-byte-lt128.false refl)
