@@ -7,23 +7,7 @@ use lib.ListN.{length, drop, get_or}
 use lib.Seq.{sets}
 use mathlib.Core.Path.{◌≡◌, refl, sym, ap, ◌∙◌}
 use native.Mathlib.Omega.{arith}
-use Rattle.numbers.proofs.put_numbers.Reads as reads
-use Rattle.numbers.proofs.put_numbers.Lts as lts
-use Rattle.number.proofs.write_number.Reads as write-number-reads
 use Rattle.numbers.proofs.put_numbers.Goals as goal
-
--- there is room, so that no write is refused
-never : {A : Type 0} → lts.After-enum-told (write-number-reads.Asked, write-number-reads.Learnt) reads.Pre reads.Post invariant-loop decreases-loop → A
-never c =
-    let five = c.before.before.before.before.before in
-    let ten = five.before.before.before.before.before in
-    let a = ten.before.args in
-    let l = five.before.before.before.loop in
-    let list = a.list.now in
-    let h : l.i < length list = omega arith in
-    let v = get_or list l.i 0 in
-    let w = written l.out l.place v (omega (arith, size_on list l.i h)) in
-    no_room (sym c.enum_told.given.1 ∙ c.before.before.before.before.write-number.ensures.0 ∙ w.0)
 
 pub loop-i-preserved : goal.loop-i-preserved
 loop-i-preserved c =
@@ -39,8 +23,15 @@ loop-i-preserved c =
       omega (arith, next, size_on list l.i h),
       rw (c.write_number-written.ensures.out_after, w.1, next) (written_on list l.i l.place l.out h)
           ∙ l.invariant.2,
-      c.write_number-written.auto.0 ∙ l.invariant.3,
+      c.write_number-written.auto.out ∙ l.invariant.3,
     )
 
+-- there is room, so that no write is refused
 pub returns-in-Refused : goal.returns-in-Refused
-returns-in-Refused c = never c
+returns-in-Refused c =
+    let l = c.loop-i in
+    let list = c.args.list.now in
+    let h : l.i < length list = omega arith in
+    let v = get_or list l.i 0 in
+    let w = written l.out l.place v (omega (arith, size_on list l.i h)) in
+    no_room (sym c.in-Refused.is ∙ c.write_number-written.ensures.value ∙ w.0)
