@@ -20,17 +20,17 @@ use Rattle.sheet.specs.declared.SheetAnswer.TheVariants.{Done, Refused}
 use Rattle.sheet.specs.Sheet.{answered, stored}
 
 module _ (judged : Part) (result out : List ℕ) where
-  pub answer-fault : {why : Refusal} {p : ℕ} → judged ≡ Fault why p
+  pub answer_fault : {why : Refusal} {p : ℕ} → judged ≡ Fault why p
       → (Refused why p ≡ answered judged (length result) (length out)) ×
       (out ≡ stored (answered judged (length result) (length out)) result out)
-  answer-fault j = (rw j, rw j)
+  answer_fault j = (rw j, rw j)
 
   -- `left` is what the lent slice holds at the end
   module _ {end : ℕ} (j : judged ≡ Good end) {left : List ℕ} (l : left ≡ whole_after out 0 result) where
-    pub answer-done : {n : ℕ} → whole_at out 0 result ≡ Past n
+    pub answer_done : {n : ℕ} → whole_at out 0 result ≡ Past n
         → (Done n ≡ answered judged (length result) (length out)) ×
         (left ≡ stored (answered judged (length result) (length out)) result out)
-    answer-done {n} e =
+    answer_done {n} e =
         by_test (leb (length result) (length out))
         (λ t.
         let w = whole out 0 result (omega (arith, leb-true (length result) (length out) t)) in
@@ -38,10 +38,10 @@ module _ (judged : Part) (result out : List ℕ) where
         (rw (j, t) (ap Done (sym size)), rw (j, t) (l ∙ w.1)))
         (λ f. no_room (sym (not_whole out 0 result (omega (arith, leb-false (length result) (length out) f))).0 ∙ e))
 
-    pub answer-short : {why : Refusal} → whole_at out 0 result ≡ NotWritten why
+    pub answer_short : {why : Refusal} → whole_at out 0 result ≡ NotWritten why
         → (Refused why 0 ≡ answered judged (length result) (length out)) ×
         (left ≡ stored (answered judged (length result) (length out)) result out)
-    answer-short {why} e =
+    answer_short {why} e =
         by_test (leb (length result) (length out))
         (λ t. no_room (sym e ∙ (whole out 0 result (omega (arith, leb-true (length result) (length out) t))).0))
         (λ f.

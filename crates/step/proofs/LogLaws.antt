@@ -10,7 +10,9 @@ use borrow.Author.Tests.{lt-ltb, ltb-true, ltb-false, not-true}
 use lib.ListN.{length, get_or, set}
 use lib.Dec.{ltb}
 use Rattle.basics.proofs.Tests.{by_test, and_left, and_right}
+use Rattle.refusal.specs.Refusal.{refusal_by}
 use Rattle.refusal.specs.declared.Refusal.{Refusal}
+use Rattle.refusal.specs.declared.Verdict.TheVariants.{Refused}
 use Rattle.frame.specs.declared.Setup.{Setup}
 use Rattle.channel.specs.declared.Request.{Request}
 use Rattle.channel.specs.Channel.{owner_place, request_of, with_request}
@@ -25,6 +27,7 @@ use Rattle.step.specs.declared.acts.Decided.{Decided}
 use Rattle.step.specs.declared.logs.Log.{Log}
 use Rattle.step.specs.Step.{Room, moved_slave, moved_master}
 use Rattle.step.specs.inner.Machine.{no_route, standing_of, decided_of, decided_marks, Actable}
+use Rattle.step.specs.Run.{World}
 use Rattle.step.specs.Log.{Page, page_after, closed, log_from}
 use Rattle.step.specs.inner.Turns.{
   Running,
@@ -58,7 +61,9 @@ log_once setup budget w later p (Done e) f h room s =
     ∙ ap (λ (x : _). log_from setup (budget - (w.done + 1)) (w.done + 1) x (page_after p e)) s.next))
 log_once setup budget w later p (NotDone why) f h room s =
     let x = s.stopped why refl in
-    rw (f, s.full, s.done, x.1) (sym (log_stop setup budget w.done (world_of w) h p why room s.told ∙ rw x.0))
+    rw (f, s.full, s.done)
+    (ap (λ (y : World). closed (Refused (refusal_by 6)) w.done y p) x.1
+    ∙ sym (log_stop setup budget w.done (world_of w) h p why room s.told ∙ rw x.0))
 
 -- after a step that was done the channel has been granted
 done_one : (first : Bool) (done : ℕ) → (ltb 0 (done + 1) || first) ≡ true

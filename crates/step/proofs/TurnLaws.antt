@@ -11,6 +11,7 @@ use lib.Dec.{eqb}
 use Rattle.basics.proofs.Tests.{by_test}
 use Rattle.refusal.specs.Refusal.{refusal_by}
 use Rattle.refusal.specs.declared.Refusal.{Refusal}
+use Rattle.refusal.specs.declared.Verdict.TheVariants.{Refused}
 use Rattle.frame.specs.declared.Setup.{Setup}
 use Rattle.channel.specs.declared.Phase.TheVariants.{Granted}
 use Rattle.channel.specs.declared.Channel.{Channel}
@@ -32,7 +33,7 @@ use Rattle.step.specs.declared.StepAnswer.{StepAnswer}
 use Rattle.step.specs.declared.StepAnswer.TheVariants.{Done, Refused as NotDone}
 use Rattle.step.specs.Plan.{act_plan, plan_of}
 use Rattle.step.specs.Step.{Ready, Room, advanced_by, tally_by, step_of, slave_by, master_by, slave_after, master_after}
-use Rattle.step.specs.Run.{world, step_in, world_after, run_from}
+use Rattle.step.specs.Run.{world, stopped, step_in, world_after, run_from}
 use Rattle.step.specs.inner.Turns.{Running, world_of, to_come, steps_after, stops, decided_in, step_run}
 use Rattle.step.proofs.PlanLaws.{says, plan_ready, planned_roomy, moved_lengths}
 use Rattle.step.proofs.KeepLaws.{step_sound, step_shaped, route_at, next_cycle, rest_at, moved_at, here, other, same_route}
@@ -112,7 +113,9 @@ turned_once setup budget w later (NotDone why) f h s =
     let x = s.stopped why refl in
     record {
       same =
-          rw (f, s.full, s.done, x.1) (sym (run_stop setup budget w.done (world_of w) h why s.told ∙ rw x.0));
+          rw (f, s.full, s.done)
+          (ap (stopped (Refused (refusal_by 6)) w.done) x.1
+          ∙ sym (run_stop setup budget w.done (world_of w) h why s.told ∙ rw x.0));
       ready = s.ready;
       shaped = s.shaped;
       least = rw s.done (omega (arith, h));

@@ -1,0 +1,16 @@
+use Prim.Native.Nat.{suc, ◌+◌, ◌-◌, ◌≤◌}
+use borrow.Author.Rules.{rules}
+use mathlib.Core.Path.{◌≡◌, ◌∙◌}
+use native.Mathlib.Omega.{arith}
+use lib.Seq.{sets}
+use Rattle.basics.specs.Limits.{places}
+use Rattle.image.specs.Read.{marks_of}
+use Rattle.image.proofs.MarkLaws.{marks_laid, marks_on}
+use Rattle.image.proofs.states.marks_of.Given as goal
+
+abbrev pub invariant-loop-level : goal.invariant-loop-level
+invariant-loop-level l =
+    (l.level ≤ places) × (sets l.marks l.level (marks_of (places - l.level) l.rest) ≡ marks_of places l.number)
+
+abbrev pub decreases-loop-level : goal.decreases-loop-level
+decreases-loop-level l = places - l.level

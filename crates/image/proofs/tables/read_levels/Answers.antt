@@ -1,0 +1,22 @@
+use Prim.Native.Nat.{suc, ◌+◌, ◌-◌, ◌≤◌}
+use borrow.Author.Rules.{rules}
+use mathlib.Core.Path.{◌≡◌, ◌∙◌}
+use native.Mathlib.Nat.{sub-zero}
+use native.Mathlib.Omega.{arith}
+use Rattle.number.specs.Number.{read_number}
+use Rattle.frame.specs.declared.RowKind.TheVariants.{Levels}
+use Rattle.frame.specs.Kind.{no_rows, with_levels, with_count}
+use Rattle.image.specs.Read.{rows_at}
+use Rattle.image.proofs.TurnLaws.{level_fault, level_on}
+use Rattle.image.proofs.tables.read_levels.Goals as goal
+
+pub loop-i-preserved : goal.loop-i-preserved
+loop-i-preserved c =
+    let l = c.loop-i in
+    let a = c.args in
+    let got = c.read_level-got in
+    let more : a.count - l.i ≡ suc (a.count - (l.i + 1)) = omega arith in (
+      omega arith,
+      level_on (read_number a.bytes.now) l.place more l.i _ got.result got.ensures c.in-Good.is
+          ∙ l.invariant.1,
+    )

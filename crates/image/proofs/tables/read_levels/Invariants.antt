@@ -1,0 +1,20 @@
+use Prim.Native.Nat.{suc, ◌+◌, ◌-◌, ◌≤◌}
+use borrow.Author.Rules.{rules}
+use mathlib.Core.Path.{◌≡◌, ◌∙◌}
+use native.Mathlib.Nat.{sub-zero}
+use native.Mathlib.Omega.{arith}
+use Rattle.number.specs.Number.{read_number}
+use Rattle.frame.specs.declared.RowKind.TheVariants.{Levels}
+use Rattle.frame.specs.Kind.{no_rows, with_levels, with_count}
+use Rattle.image.specs.Read.{rows_at}
+use Rattle.image.proofs.TurnLaws.{level_fault, level_on}
+use Rattle.image.proofs.tables.read_levels.Given as goal
+
+abbrev pub invariant-loop-i : goal.invariant-loop-i
+invariant-loop-i l =
+    (l.i ≤ l.count)
+    × (rows_at Levels (read_number l.bytes) (l.count - l.i) l.i (with_levels no_rows l.levels) l.place
+    ≡ rows_at Levels (read_number l.bytes) l.count 0 (with_count no_rows Levels l.count) l.at)
+
+abbrev pub decreases-loop-i : goal.decreases-loop-i
+decreases-loop-i l = l.count - l.i

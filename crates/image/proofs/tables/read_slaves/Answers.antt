@@ -1,0 +1,31 @@
+use Prim.Native.Nat.{suc, ◌+◌, ◌-◌, ◌≤◌}
+use borrow.Author.Rules.{rules}
+use mathlib.Core.Path.{◌≡◌, ◌∙◌}
+use native.Mathlib.Nat.{sub-zero}
+use native.Mathlib.Omega.{arith}
+use Rattle.number.specs.Number.{read_number}
+use Rattle.frame.specs.declared.RowKind.TheVariants.{Slaves}
+use Rattle.frame.specs.Kind.{no_rows, with_levels, with_slaves, with_count}
+use Rattle.frame.specs.declared.LevelRows.{LevelRows}
+use Rattle.image.specs.Read.{rows_at}
+use Rattle.image.proofs.TurnLaws.{slave_fault, slave_on}
+use Rattle.image.proofs.tables.read_slaves.Goals as goal
+
+pub returns-in_default : goal.returns-in_default
+returns-in_default c =
+    let l = c.loop-i in
+    let a = c.args in
+    let got = c.read_slave-got in
+    let more : a.count - l.i ≡ suc (a.count - (l.i + 1)) = omega arith in
+    λ levels. slave_fault (read_number a.bytes.now) l.place more l.i _ got.result got.ensures c.in_default.is ∙ l.invariant.1 levels
+
+pub loop-i-preserved : goal.loop-i-preserved
+loop-i-preserved c =
+    let l = c.loop-i in
+    let a = c.args in
+    let got = c.read_slave-got in
+    let more : a.count - l.i ≡ suc (a.count - (l.i + 1)) = omega arith in (
+      omega arith,
+      λ levels. slave_on (read_number a.bytes.now) l.place more l.i _ got.result got.ensures c.in-Good.is
+          ∙ l.invariant.1 levels,
+    )

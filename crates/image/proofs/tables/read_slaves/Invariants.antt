@@ -1,0 +1,22 @@
+use Prim.Native.Nat.{suc, ◌+◌, ◌-◌, ◌≤◌}
+use borrow.Author.Rules.{rules}
+use mathlib.Core.Path.{◌≡◌, ◌∙◌}
+use native.Mathlib.Nat.{sub-zero}
+use native.Mathlib.Omega.{arith}
+use Rattle.number.specs.Number.{read_number}
+use Rattle.frame.specs.declared.RowKind.TheVariants.{Slaves}
+use Rattle.frame.specs.Kind.{no_rows, with_levels, with_slaves, with_count}
+use Rattle.frame.specs.declared.LevelRows.{LevelRows}
+use Rattle.image.specs.Read.{rows_at}
+use Rattle.image.proofs.TurnLaws.{slave_fault, slave_on}
+use Rattle.image.proofs.tables.read_slaves.Given as goal
+
+abbrev pub invariant-loop-i : goal.invariant-loop-i
+invariant-loop-i l =
+    (l.i ≤ l.count)
+    × ((levels : LevelRows)
+    → rows_at Slaves (read_number l.bytes) (l.count - l.i) l.i (with_slaves (with_levels no_rows levels) l.slaves) l.place
+    ≡ rows_at Slaves (read_number l.bytes) l.count 0 (with_count (with_levels no_rows levels) Slaves l.count) l.at)
+
+abbrev pub decreases-loop-i : goal.decreases-loop-i
+decreases-loop-i l = l.count - l.i

@@ -1,0 +1,14 @@
+use Prim.Native.Nat.{◌+◌, ◌-◌, ◌≤◌}
+use mathlib.Core.Path.{◌≡◌, refl, sym, ap, ◌∙◌}
+use native.Mathlib.Nat.{add-zero}
+use native.Mathlib.Omega.{arith}
+use lib.ListN.{length, drop, length-set, drop_of_length-le}
+use lib.Seq.{sets}
+use Rattle.image.proofs.WriteLaws.{copied_on}
+use Rattle.image.proofs.writing.put_bytes.Given as goal
+
+abbrev pub invariant-loop-i : goal.invariant-loop-i
+invariant-loop-i l = (l.i ≤ length l.from) × (length l.out ≡ length l.initial.out) × (sets l.out (l.at + l.i) (drop l.i l.from) ≡ sets l.initial.out l.at l.from)
+
+abbrev pub decreases-loop-i : goal.decreases-loop-i
+decreases-loop-i l = length l.from - l.i

@@ -1,0 +1,53 @@
+use borrow.Author.Rules.{rules}
+use Prim.Native.Nat.{◌*◌, ◌+◌, ◌≤◌}
+use mathlib.Core.Path.{◌∙◌}
+use mathlib.Core.List.{[], ◌∷◌, ◌++◌}
+use native.Mathlib.Nat.{zero-add}
+use native.Mathlib.Omega.{arith}
+use lib.ListN.{length}
+use Rattle.number.proofs.Laws.{bytes_most}
+use Rattle.numbers.proofs.Laws.{sizes_most}
+use Rattle.image.specs.Layout.{layout_number}
+use Rattle.image.specs.Image.{head_bytes}
+use Rattle.image.proofs.WriteLaws.{laid_one, laid_both, laid_more}
+use Rattle.image.proofs.ImageLaws.{list_none, list_size, list_laid}
+use Rattle.image.proofs.writing.put_head.Goals as goal
+
+pub put_one-first-requires : goal.put_one-first-requires
+put_one-first-requires c = omega (arith, bytes_most layout_number)
+
+pub put_one-requires : goal.put_one-requires
+put_one-requires c =
+    let a = c.args in
+    let first = c.put_one-first in
+    let w = c.write_numbers-written in
+    let room : first.result + 5 * length a.list.now ≤ length first.new.0 = omega (arith, bytes_most layout_number, first.ensures.value, first.auto) in
+    let size = list_size a.list.now first.new.0 first.result room w.ensures.value c.in-Past.is in
+    omega (arith, bytes_most layout_number, bytes_most a.master, sizes_most a.list.now, first.ensures.value, first.auto, size, w.auto)
+
+pub returns-in-Past : goal.returns-in-Past
+returns-in-Past c =
+    let a = c.args in
+    let first = c.put_one-first in
+    let w = c.write_numbers-written in
+    let last = c.put_one in
+    let list = c.args.list.now in
+    let room : first.result + 5 * length list ≤ length first.new.0 = omega (arith, bytes_most layout_number, first.ensures.value, first.auto) in
+    let size = list_size list first.new.0 first.result room w.ensures.value c.in-Past.is in
+    let laid = list_laid list first.new.0 first.result room w.ensures.out_after in
+    let rest = laid_both first.new.0 first.result list (a.master ∷ []) (size, laid) (laid_one _ _ a.master last.ensures) in
+    let all = laid_more a.row.now 0 layout_number (list ++ (a.master ∷ [])) first.ensures rest in
+    record {
+      value = all.0 ∙ zero-add (length (head_bytes list a.master));
+      row_after = all.1;
+    }
+
+pub returns-in-Refused : goal.returns-in-Refused
+returns-in-Refused c =
+    let list = c.args.list.now in
+    let first = c.put_one-first in
+    let room : first.result + 5 * length list ≤ length first.new.0 = omega (arith, bytes_most layout_number, first.ensures.value, first.auto) in
+    let both = list_none list first.new.0 first.result room c.write_numbers-written.ensures.value c.in-Refused.is in record {
+      value = both.0;
+      row_after = both.1;
+    }

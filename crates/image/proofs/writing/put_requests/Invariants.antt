@@ -1,0 +1,20 @@
+use borrow.Author.Rules.{rules}
+use Prim.Native.Nat.{ℕ, suc, ◌+◌, ◌-◌, ◌*◌, ◌≤◌}
+use mathlib.Core.Path.{◌≡◌, refl, ◌∙◌}
+use mathlib.Core.List.{List}
+use native.Mathlib.Omega.{arith}
+use lib.ListN.{length, length-set}
+use Rattle.basics.specs.Limits.{places}
+use Rattle.channel.specs.Channel.{request_of}
+use Rattle.image.specs.Layout.{requests_numbers}
+use Rattle.image.proofs.WriteLaws.{Laid, laid_none, none_on, some_on, request_size, requests_done}
+use Rattle.image.proofs.writing.put_requests.Given as goal
+
+abbrev pub invariant-loop-level : goal.invariant-loop-level
+invariant-loop-level l =
+    (l.level ≤ places) × (l.place ≤ l.at + 25 * l.level) × (length l.row ≡ length l.initial.row)
+    × ((end : ℕ) (after : List ℕ) → Laid l.row l.place (requests_numbers l.channel (places - l.level) l.level) end after
+    → Laid l.initial.row l.at (requests_numbers l.channel places 0) end after)
+
+abbrev pub decreases-loop-level : goal.decreases-loop-level
+decreases-loop-level l = places - l.level

@@ -1,0 +1,13 @@
+use Rattle.act.specs.Entry.{cycle_fields}
+use borrow.Author.Rules.{rules}
+use Rattle.logline.proofs.put_cycle.Goals as goal
+
+pub returns : goal.returns
+unfolding cycle_fields
+returns c =
+    let k = c.put_line.ensures in
+    let e = c.ending_number-kept.ensures in
+    record {
+      value = rw (← e) k.value;
+      out_after = rw (← e) k.out_after;
+    }

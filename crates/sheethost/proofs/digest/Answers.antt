@@ -1,0 +1,13 @@
+use Prim.Native.Nat.{◌-◌, ◌<◌}
+use lib.ListN.{length, drop}
+use mathlib.Core.Path.{◌≡◌, refl, sym, ◌∙◌}
+use native.Mathlib.Omega.{arith}
+use Rattle.sheethost.specs.Host.{digest_from, digest_of}
+use Rattle.sheethost.proofs.StoreLaws.{digest_more, digest_whole}
+use Rattle.sheethost.proofs.digest.Goals as goal
+
+pub returns : goal.returns
+unfolding digest_of
+returns c =
+    let l = c.loop-i in
+    sym (digest_whole _ l.i l.d (omega arith)) ∙ l.invariant.1

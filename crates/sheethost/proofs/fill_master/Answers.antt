@@ -1,0 +1,12 @@
+use Prim.Native.Nat.{◌-◌, ◌≤◌}
+use lib.ListN.{length, length-set, take}
+use mathlib.Core.Path.{◌≡◌, refl}
+use native.Mathlib.Omega.{arith}
+use Rattle.sheethost.specs.Host.{master_store}
+use Rattle.sheethost.proofs.StoreLaws.{master_more, all_filled}
+use Rattle.sheethost.proofs.fill_master.Goals as goal
+
+pub loop-i-preserved : goal.loop-i-preserved
+loop-i-preserved c =
+    let l = c.loop-i in
+    (omega arith, simp length-set l.invariant.1, master_more l.master l.i (omega arith) l.invariant.2)

@@ -1,0 +1,7 @@
+use Rattle.sheetlist.specs.Held.{setup_of}
+use borrow.Author.Rules.{rules}
+use Rattle.sheetlist.proofs.setup_of.Goals as goal
+
+pub returns : goal.returns
+unfolding setup_of
+returns c = rw c.head_of-rows.ensures

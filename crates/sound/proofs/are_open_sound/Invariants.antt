@@ -1,0 +1,24 @@
+use Prim.Native.Nat.{ℕ, ◌+◌, ◌-◌, ◌*◌, ◌≤◌}
+use Rattle.basics.proofs.ScanLaws.{all_more, all_miss}
+use Rattle.basics.specs.Limits.{places, rows_most}
+use Rattle.basics.specs.Scan.{all_below}
+use Rattle.channel.specs.declared.Request.{Request}
+use Rattle.frame.specs.Frame.{rows_present as present_rows}
+use Rattle.sound.proofs.TableLaws.{SearchedTo, searched_none, turn_closed, turn_none, turn_held, turn_on}
+use Rattle.sound.specs.inner.Tables.{request_at, open_sound, are_open_sound}
+use borrow.Author.Tests.{not-true, not-false, eq-eqb, ne_eqb}
+use lib.ListN.{get_or}
+use mathlib.Core.Bool.{true, false}
+use mathlib.Core.Logic.{⊎_elim}
+use mathlib.Core.Path.{◌≡◌, refl, sym, ◌∙◌}
+use native.Mathlib.Omega.{arith}
+use Rattle.sound.proofs.are_open_sound.Given as goal
+
+abbrev pub invariant-loop-level : goal.invariant-loop-level
+invariant-loop-level v =
+    (v.level ≤ places) × (v.count ≡ present_rows v.setup.slaves.count) × (v.i ≤ v.count)
+    × (all_below (λ (l : ℕ). open_sound v.setup (get_or v.present l false) l (request_at v.direction v.space v.address v.left v.offset l)) v.level ≡ true)
+    × SearchedTo v.setup.slaves (request_at v.direction v.space v.address v.left v.offset v.level) v.i v.count
+
+abbrev pub decreases-loop-level : goal.decreases-loop-level
+decreases-loop-level l = (places - l.level) * (rows_most + 1) + (rows_most - l.i)

@@ -1,0 +1,16 @@
+use Prim.Native.Nat.{ℕ, ◌-◌, ◌≤◌}
+use Rattle.basics.proofs.ScanLaws.{all_more, all_miss}
+use Rattle.basics.specs.Limits.{places}
+use Rattle.basics.specs.Scan.{all_below}
+use Rattle.channel.specs.Line.{is_inactive}
+use Rattle.sound.specs.Sound.{are_unmarked}
+use mathlib.Core.Bool.{true, not}
+use mathlib.Core.Path.{◌≡◌, refl, sym}
+use native.Mathlib.Omega.{arith}
+use Rattle.sound.proofs.are_unmarked.Given as goal
+
+abbrev pub invariant-loop-level : goal.invariant-loop-level
+invariant-loop-level v = (v.level ≤ places) × (all_below (λ (l : ℕ). not (is_inactive v.inactive l)) v.level ≡ true)
+
+abbrev pub decreases-loop-level : goal.decreases-loop-level
+decreases-loop-level l = places - l.level

@@ -1,0 +1,14 @@
+use mathlib.Core.Path.{◌≡◌, refl, sym, ◌∙◌}
+use native.Mathlib.Omega.{arith}
+use Prim.Native.Nat.{◌-◌}
+use Rattle.basics.specs.Limits.{places}
+use Rattle.channel.specs.Line.{waits}
+use Rattle.step.specs.inner.Machine.{any_from, waits_from}
+use Rattle.step.proofs.SearchLaws.{from_hit, from_miss}
+use Rattle.step.proofs.acts.waits_from.Given as goal
+
+abbrev pub invariant-loop-level : goal.invariant-loop-level
+invariant-loop-level l = any_from (waits l.left l.inactive) l.level (places - l.level) ≡ waits_from l.left l.inactive l.from
+
+abbrev pub decreases-loop-level : goal.decreases-loop-level
+decreases-loop-level l = places - l.level

@@ -1,0 +1,13 @@
+use native.Mathlib.Omega.{arith}
+use lib.ListN.{drop, length-drop}
+use lib.Seq.{get_or-drop}
+use native.Mathlib.Nat.{add-zero}
+use Rattle.step.proofs.ByteLaws.{paste_one}
+use borrow.Author.Rules.{rules}
+use Rattle.step.proofs.cycles.move_one.Goals as goal
+
+pub returns : goal.returns
+returns c =
+    let a = c.args in
+    let p = paste_one a.target.now a.to (drop a.from a.source.now) (omega arith) (rw length-drop (omega arith)) in
+    simp (get_or-drop, add-zero) at p

@@ -1,0 +1,32 @@
+use mathlib.Core.Path.{sym, ◌∙◌}
+use Rattle.step.proofs.PlanLaws.{ready_is}
+use Rattle.step.specs.Run.{run_of}
+use borrow.Author.Rules.{rules}
+use Rattle.step.proofs.run.Goals as goal
+
+pub run_ready-requires : goal.run_ready-requires
+run_ready-requires c =
+    let a = c.args in
+    ready_is a.setup a.channel _ _ (sym c.ready_verdict-verdict.ensures
+    ∙ c.in-Accepted.is)
+
+pub returns-in-Refused : goal.returns-in-Refused
+unfolding run_of
+returns-in-Refused c =
+    let e = sym c.ready_verdict-verdict.ensures ∙ c.in-Refused.is in
+    record {
+      value = rw e c.refused_run.ensures;
+      slave_after = rw e;
+      master_after = rw e;
+    }
+
+pub returns-in-Accepted : goal.returns-in-Accepted
+unfolding run_of
+returns-in-Accepted c =
+    let e = sym c.ready_verdict-verdict.ensures ∙ c.in-Accepted.is in
+    let k = c.run_ready.ensures in
+    record {
+      value = rw e k.value;
+      slave_after = rw e k.slave_after;
+      master_after = rw e k.master_after;
+    }

@@ -1,0 +1,41 @@
+use mathlib.Core.Path.{◌≡◌, refl, sym, ap, ◌∙◌}
+use mathlib.Core.Bool.{true}
+use native.Mathlib.Omega.{arith}
+use borrow.Author.Tests.{ltb-true, not-true}
+use lib.ListN.{length}
+use lib.Dec.{ltb}
+use Rattle.basics.proofs.Tests.{and_left, and_right}
+use Rattle.frame.specs.declared.Setup.{Setup}
+use Rattle.sound.proofs.SoundFacts.{sound_is}
+use Rattle.step.specs.Run.{Out}
+use Rattle.step.specs.inner.Turns.{running_of, Lows}
+use Rattle.step.proofs.GoingLaws.{
+  Going,
+  Runs,
+  runs_on_lem,
+  runs_first,
+  turnable,
+  turned_by,
+  place_below,
+  nearness,
+  nearer,
+  start_lows,
+  finished,
+  first_come,
+}
+use Rattle.step.proofs.BeginLaws.{begun, begun_lows}
+use Rattle.step.proofs.turns.run_steps.Given as goal
+
+abbrev pub invariant-loop-state : goal.invariant-loop-state
+invariant-loop-state l =
+    (length l.slave ≡ length l.initial.slave)
+    × (length l.master ≡ length l.initial.master)
+    × Lows l.base l.state.low (running_of l.state true l.inactive l.direction l.space l.address l.left l.offset l.slave l.master).channel
+    × ((setup : Setup)
+    → Going setup l.routes (running_of l.initial.state true l.initial.inactive l.initial.direction l.initial.space l.initial.address l.initial.left l.initial.offset l.initial.slave l.initial.master)
+    → Runs setup l.budget l.routes (running_of l.initial.state true l.initial.inactive l.initial.direction l.initial.space l.initial.address l.initial.left l.initial.offset l.initial.slave l.initial.master)
+    (running_of l.state true l.inactive l.direction l.space l.address l.left l.offset l.slave l.master))
+
+abbrev pub decreases-loop-state : goal.decreases-loop-state
+decreases-loop-state l =
+    nearness l.budget l.state.full l.state.done

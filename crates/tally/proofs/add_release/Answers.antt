@@ -1,0 +1,7 @@
+use Rattle.tally.specs.Tally.{add_release}
+use borrow.Author.Rules.{rules}
+use Rattle.tally.proofs.add_release.Goals as goal
+
+pub returns : goal.returns
+unfolding add_release
+returns c = rw (c.larger_of.ensures, c.hold_figure.ensures)
