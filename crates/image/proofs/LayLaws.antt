@@ -1,6 +1,6 @@
 -- The numbers of a set-up laid one after the other into a list, one more at a time. Assumes nothing.
 use Prim.Native.Nat.{ℕ, zero, suc, ◌+◌, ◌*◌, ◌≤◌}
-use mathlib.Core.Path.{◌≡◌, sym, ap, ◌∙◌}
+use mathlib.Core.Path.{◌≡◌, sym, ap, subst, ◌∙◌}
 use mathlib.Core.List.{List, [], ◌∷◌, ◌++◌}
 use native.Mathlib.Nat.{zero-mul, min-eq_left}
 use native.Mathlib.Numerals.{add-one}
@@ -9,6 +9,8 @@ use lib.ListN.{length, set, length-append}
 use lib.Seq.{sets}
 use Rattle.basics.specs.Limits.{rows_most}
 use Rattle.numbers.proofs.Laws.{sets_append}
+use Rattle.frame.specs.declared.SlaveRows.{SlaveRows}
+use Rattle.frame.specs.declared.LevelRows.{LevelRows}
 use Rattle.frame.specs.declared.LevelRow.{LevelRow}
 use Rattle.frame.specs.declared.SlaveRow.{SlaveRow}
 use Rattle.frame.specs.declared.Setup.{Setup}
@@ -31,6 +33,10 @@ four at = omega arith
 five : (at : ℕ) → at + 5 ≡ suc (suc (suc (suc (suc at))))
 five at = omega arith
 
+-- a set-up of these rows
+abbrev pub tables : LevelRows → SlaveRows → ℕ → Setup
+tables levels slaves master = record { levels = levels; slaves = slaves; master = master }
+
 -- one more row is due, of either kind
 module _ (setup : Setup) (kind : RowKind) (i : ℕ) {left k : ℕ} (more : left ≡ suc k) where
   module _ (is : kind ≡ Levels) where
@@ -41,10 +47,19 @@ module _ (setup : Setup) (kind : RowKind) (i : ℕ) {left k : ℕ} (more : left 
         → sets (set (set (set out at level_row.level) (at + 1) level_row.width) (at + 2) level_row.options) (at + 3)
         (rows_numbers setup kind k (i + 1))
         ≡ sets out at (rows_numbers setup kind left i)
-    level_laid out at = rw (more, is, add-one at, two at, three at)
+    level_laid out at =
+        subst
+        (λ (x : RowKind).
+        sets (set (set (set out at level_row.level) (at + 1) level_row.width) (at + 2) level_row.options) (at + 3)
+        (rows_numbers setup x k (i + 1))
+        ≡ sets out at (rows_numbers setup x left i))
+        (sym is)
+        (rw (more, add-one at, two at, three at))
 
     pub level_size : length (rows_numbers setup kind left i) ≡ 3 + length (rows_numbers setup kind k (i + 1))
-    level_size = rw (more, is) (omega arith)
+    level_size =
+        subst (λ (x : RowKind). length (rows_numbers setup x left i) ≡ 3 + length (rows_numbers setup x k (i + 1))) (sym is)
+        (rw more (omega arith))
 
   module _ (is : kind ≡ Slaves) where
     abbrev slave_row : SlaveRow
@@ -59,10 +74,24 @@ module _ (setup : Setup) (kind : RowKind) (i : ℕ) {left k : ℕ} (more : left 
         (at + 5)
         (rows_numbers setup kind k (i + 1))
         ≡ sets out at (rows_numbers setup kind left i)
-    slave_laid out at = rw (more, is, add-one at, two at, three at, four at, five at)
+    slave_laid out at =
+        subst
+        (λ (x : RowKind).
+        sets
+        (set
+        (set (set (set (set out at slave_row.space) (at + 1) slave_row.base) (at + 2) slave_row.length) (at + 3) slave_row.port)
+        (at + 4)
+        slave_row.time)
+        (at + 5)
+        (rows_numbers setup x k (i + 1))
+        ≡ sets out at (rows_numbers setup x left i))
+        (sym is)
+        (rw (more, add-one at, two at, three at, four at, five at))
 
     pub slave_size : length (rows_numbers setup kind left i) ≡ 5 + length (rows_numbers setup kind k (i + 1))
-    slave_size = rw (more, is) (omega arith)
+    slave_size =
+        subst (λ (x : RowKind). length (rows_numbers setup x left i) ≡ 5 + length (rows_numbers setup x k (i + 1))) (sym is)
+        (rw more (omega arith))
 
 pub rows_done : (setup : Setup) (kind : RowKind) (i : ℕ) {left : ℕ} → left ≡ 0 → rows_numbers setup kind left i ≡ []
 rows_done setup kind i none = rw none

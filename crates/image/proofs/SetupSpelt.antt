@@ -92,7 +92,7 @@ module _ (src : Source) where
         before = λ j h. rest.before j (omega arith) ∙ put_before first kind i j row h;
         wide = rest.wide;
         count = rest.count ∙ put_count first kind i row;
-        others = λ other n. same_then _ more first other (rest.others other n) (put_others first kind other i row n);
+        others = λ other n. same_then (rows_at kind src left (i + 1) more next).setup more first other (rest.others other n) (put_others first kind other i row n);
       })
 
   -- the count and the rows

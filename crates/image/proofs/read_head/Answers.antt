@@ -18,13 +18,13 @@ pub slice_bounds-bytes-end : goal.slice_bounds-bytes-end
 slice_bounds-bytes-end c =
     let a = c.args in
     let laid = c.put_head-length in
-    omega (arith, head_most a.list.now a.master, laid.ensures.value, laid.auto)
+    omega (arith, head_most a.list.now a.master, laid.ensures.value, laid.auto.row)
 
 pub slice_bounds-head_read-end : goal.slice_bounds-head_read-end
 slice_bounds-head_read-end c =
     let a = c.args in
     let laid = c.put_head-length in
-    sym (length-take-le laid.result laid.new.0 (omega (arith, head_most a.list.now a.master, laid.ensures.value, laid.auto)))
+    sym (length-take-le laid.result laid.new.row (omega (arith, head_most a.list.now a.master, laid.ensures.value, laid.auto.row)))
 
 pub returns : goal.returns
 unfolding read_head

@@ -18,13 +18,13 @@ pub slice_bounds-row-end : goal.slice_bounds-row-end
 slice_bounds-row-end c =
     let a = c.args in
     let laid = c.put_channel-count in
-    omega (arith, channel_size a.channel, laid.ensures.value, laid.auto)
+    omega (arith, channel_size a.channel, laid.ensures.value, laid.auto.row)
 
 pub slice_bounds-put_whole-end : goal.slice_bounds-put_whole-end
 slice_bounds-put_whole-end c =
     let a = c.args in
     let laid = c.put_channel-count in
-    sym (length-take-le laid.result laid.new.0 (omega (arith, channel_size a.channel, laid.ensures.value, laid.auto)))
+    sym (length-take-le laid.result laid.new.row (omega (arith, channel_size a.channel, laid.ensures.value, laid.auto.row)))
 
 pub returns : goal.returns
 unfolding write_channel write_channel_after

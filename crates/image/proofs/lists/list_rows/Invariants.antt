@@ -10,7 +10,7 @@ use Rattle.frame.specs.declared.LevelRows.{LevelRows}
 use Rattle.frame.specs.declared.SlaveRows.{SlaveRows}
 use Rattle.frame.specs.declared.Setup.{Setup}
 use Rattle.image.specs.Layout.{rows_numbers}
-use Rattle.image.proofs.LayLaws.{level_laid, level_size, slave_laid, slave_size, rows_done}
+use Rattle.image.proofs.LayLaws.{tables, level_laid, level_size, slave_laid, slave_size, rows_done}
 use Rattle.image.proofs.lists.list_rows.Given as goal
 
 abbrev pub invariant-loop-i : goal.invariant-loop-i

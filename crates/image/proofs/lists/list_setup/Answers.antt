@@ -21,7 +21,7 @@ pub bounds-values-mid : goal.bounds-values-mid
 bounds-values-mid c =
     let a = c.args in
     let rows = c.list_rows-mid in
-    omega (arith, rows_size a.setup Levels (row_count a.setup Levels) 0, rows.ensures.value, simp length-set at rows.auto)
+    omega (arith, rows_size a.setup Levels (row_count a.setup Levels) 0, rows.ensures.value, simp length-set at rows.auto.values)
 
 pub overflow_add-mid : goal.overflow_add-mid
 overflow_add-mid c =
@@ -33,7 +33,7 @@ list_rows-end-requires c =
     let a = c.args in
     let rows = c.list_rows-mid in (
       c.requires.1,
-      simp length-set (omega (arith, rows_size a.setup Levels (row_count a.setup Levels) 0, rows.ensures.value, simp length-set at rows.auto)),
+      simp length-set (omega (arith, rows_size a.setup Levels (row_count a.setup Levels) 0, rows.ensures.value, simp length-set at rows.auto.values)),
     )
 
 pub offset_bounds-values-end : goal.offset_bounds-values-end
@@ -52,8 +52,8 @@ bounds-values-end c =
     omega (
       arith,
       ends c.list_rows-mid.ensures.value rows.ensures.value (omega arith) (omega arith),
-      simp length-set at rows.auto,
-      simp length-set at c.list_rows-mid.auto,
+      simp length-set at rows.auto.values,
+      simp length-set at c.list_rows-mid.auto.values,
     )
 
 pub overflow_add-result : goal.overflow_add-result

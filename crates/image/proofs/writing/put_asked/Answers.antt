@@ -17,11 +17,11 @@ put_one-requires-in-At c =
 
 pub returns-in-At : goal.returns-in-At
 returns-in-At c =
-    let is = c.asked-1.given in
     let a = c.args in
     let first = c.put_one-next in
     let second = c.put_one-in-At in
     let time = c.in-At.time in
-    rw c.in-At.is
-    (laid_both a.row.now a.at (1 ∷ []) (time ∷ []) (laid_one a.row.now a.at 1 first.ensures)
-    (laid_one first.new.0 first.result time second.ensures))
+    let both = laid_both a.row.now a.at (1 ∷ []) (time ∷ [])
+    (laid_one a.row.now a.at 1 (first.ensures.value, first.ensures.row_after))
+    (laid_one first.new.row first.result time (second.ensures.value, second.ensures.row_after)) in
+    rw c.in-At.is (record { value = both.0; row_after = both.1 })

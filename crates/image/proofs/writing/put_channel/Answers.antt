@@ -49,9 +49,9 @@ put_requests-requires c =
 pub returns : goal.returns
 returns c =
     let a = c.args in
-    let both = channel_laid a.channel a.row.now a.at c.flag_number.ensures c.put_one-second.ensures c.put_one-third.ensures
-    c.phase_number.ensures c.put_one-fourth.ensures c.put_asked-fifth.ensures c.marks_number.ensures
-    c.put_one-sixth.ensures c.put_requests.ensures in record {
+    let both = channel_laid a.channel a.row.now a.at c.flag_number.ensures (c.put_one-second.ensures.value, c.put_one-second.ensures.row_after) (c.put_one-third.ensures.value, c.put_one-third.ensures.row_after)
+    c.phase_number.ensures (c.put_one-fourth.ensures.value, c.put_one-fourth.ensures.row_after) (c.put_asked-fifth.ensures.value, c.put_asked-fifth.ensures.row_after) c.marks_number.ensures
+    (c.put_one-sixth.ensures.value, c.put_one-sixth.ensures.row_after) (c.put_requests.ensures.value, c.put_requests.ensures.row_after) in record {
       value = both.0;
       row_after = both.1;
     }

@@ -21,9 +21,9 @@ put_one-requires c =
     let a = c.args in
     let first = c.put_one-first in
     let w = c.write_numbers-written in
-    let room : first.result + 5 * length a.list.now ≤ length first.new.0 = omega (arith, bytes_most layout_number, first.ensures.value, first.auto) in
-    let size = list_size a.list.now first.new.0 first.result room w.ensures.value c.in-Past.is in
-    omega (arith, bytes_most layout_number, bytes_most a.master, sizes_most a.list.now, first.ensures.value, first.auto, size, w.auto)
+    let room : first.result + 5 * length a.list.now ≤ length first.new.row = omega (arith, bytes_most layout_number, first.ensures.value, first.auto.row) in
+    let size = list_size a.list.now first.new.row first.result room w.ensures.value c.in-Past.is in
+    omega (arith, bytes_most layout_number, bytes_most a.master, sizes_most a.list.now, first.ensures.value, first.auto.row, size, w.auto.out)
 
 pub returns-in-Past : goal.returns-in-Past
 returns-in-Past c =
@@ -32,11 +32,11 @@ returns-in-Past c =
     let w = c.write_numbers-written in
     let last = c.put_one in
     let list = c.args.list.now in
-    let room : first.result + 5 * length list ≤ length first.new.0 = omega (arith, bytes_most layout_number, first.ensures.value, first.auto) in
-    let size = list_size list first.new.0 first.result room w.ensures.value c.in-Past.is in
-    let laid = list_laid list first.new.0 first.result room w.ensures.out_after in
-    let rest = laid_both first.new.0 first.result list (a.master ∷ []) (size, laid) (laid_one _ _ a.master last.ensures) in
-    let all = laid_more a.row.now 0 layout_number (list ++ (a.master ∷ [])) first.ensures rest in
+    let room : first.result + 5 * length list ≤ length first.new.row = omega (arith, bytes_most layout_number, first.ensures.value, first.auto.row) in
+    let size = list_size list first.new.row first.result room w.ensures.value c.in-Past.is in
+    let laid = list_laid list first.new.row first.result room w.ensures.out_after in
+    let rest = laid_both first.new.row first.result list (a.master ∷ []) (size, laid) (laid_one _ _ a.master (last.ensures.value, last.ensures.row_after)) in
+    let all = laid_more a.row.now 0 layout_number (list ++ (a.master ∷ [])) (first.ensures.value, first.ensures.row_after) rest in
     record {
       value = all.0 ∙ zero-add (length (head_bytes list a.master));
       row_after = all.1;
@@ -46,8 +46,8 @@ pub returns-in-Refused : goal.returns-in-Refused
 returns-in-Refused c =
     let list = c.args.list.now in
     let first = c.put_one-first in
-    let room : first.result + 5 * length list ≤ length first.new.0 = omega (arith, bytes_most layout_number, first.ensures.value, first.auto) in
-    let both = list_none list first.new.0 first.result room c.write_numbers-written.ensures.value c.in-Refused.is in record {
-      value = both.0;
-      row_after = both.1;
+    let room : first.result + 5 * length list ≤ length first.new.row = omega (arith, bytes_most layout_number, first.ensures.value, first.auto.row) in
+    record {
+      value = list_none list first.new.row first.result room c.write_numbers-written.ensures.value c.in-Refused.is;
+      row_after = list_none list first.new.row first.result room c.write_numbers-written.ensures.value c.in-Refused.is;
     }

@@ -19,7 +19,5 @@ pub returns-in-Refused : goal.returns-in-Refused
 returns-in-Refused c =
     let a = c.args in
     let w = written a.row.now a.at a.v (omega arith) in
-    let both = no_room (sym c.in-Refused.is ∙ c.write_number-written.ensures.value ∙ w.0) in record {
-      value = both.0;
-      row_after = both.1;
-    }
+    let e = sym c.in-Refused.is ∙ c.write_number-written.ensures.value ∙ w.0 in
+    record { value = no_room e; row_after = no_room e }

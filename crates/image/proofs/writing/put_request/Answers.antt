@@ -25,8 +25,8 @@ put_one-requires c =
 pub returns : goal.returns
 returns c =
     let first = c.put_one-second.ensures in
-    let both = request_laid c.args.request c.args.row.now c.args.at (omega (arith, c.requires.0)) first c.put_one-third.ensures
-    c.put_one-fourth.ensures c.put_one-fifth.ensures c.put_one.ensures in record {
+    let both = request_laid c.args.request c.args.row.now c.args.at (omega (arith, c.requires.0)) (first.value, first.row_after) (c.put_one-third.ensures.value, c.put_one-third.ensures.row_after)
+    (c.put_one-fourth.ensures.value, c.put_one-fourth.ensures.row_after) (c.put_one-fifth.ensures.value, c.put_one-fifth.ensures.row_after) (c.put_one.ensures.value, c.put_one.ensures.row_after) in record {
       value = both.0;
       row_after = both.1;
     }

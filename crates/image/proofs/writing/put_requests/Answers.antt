@@ -29,8 +29,8 @@ loop-level-preserved c =
     let more : places - l.level ≡ suc (places - (l.level + 1)) = omega arith in (
       omega arith,
       omega (arith, put.ensures.value, request_size (request_of ch l.level)),
-      put.auto.0 ∙ l.invariant.2,
-      λ end after rest. l.invariant.3 end after (some_on ch l.row l.place l.level more put.ensures rest),
+      put.auto.row ∙ l.invariant.2,
+      λ end after rest. l.invariant.3 end after (some_on ch l.row l.place l.level more (put.ensures.value, put.ensures.row_after) rest),
     )
 
 pub returns : goal.returns
