@@ -4,12 +4,17 @@
 // stores are printed, so that another program can be compared with it.
 #![tactic(auto)]
 
+ghost use Rattle.std.specs.Prelude.{◌≤◌, length, IfOk};
+
 use basics::PLACES;
 use channel::{Asked, Channel};
 use frame::{Order, Setup};
-use libc::{STDIN_FILENO, STDOUT_FILENO};
 use sheet::SheetAnswer;
 use sheetlist::Event;
+use std::env::FillError;
+use std::io;
+use std::io::{Input, Read};
+use std::rt::Env;
 use tally::Tally;
 
 #[derive(Clone, Copy)]
@@ -28,12 +33,10 @@ fn single_steps(
 ) -> Session {
     let mut channel = session.channel;
     let mut tally = session.tally;
-    let mut done: u32 = 0;
-    while done < steps {
+    for _ in 0..steps {
         let next = step::step(setup, channel, tally, slave, master);
         channel = next.channel;
         tally = next.tally;
-        done += 1;
     }
     Session {
         channel: channel,
@@ -111,14 +114,11 @@ fn take_events(
         channel: channel::fresh_channel(),
         tally: tally::no_tally(),
     };
-    let count = sheetlist::event_count(list);
     let mut at = sheetlist::first_event(list);
-    let mut i: usize = 0;
-    while i < count {
+    for _ in 0..sheetlist::event_count(list) {
         let event = sheetlist::event_at(list, at);
         session = take_event(setup, session, slave, master, event, single);
         at = sheetlist::next_event(list, at);
-        i += 1;
     }
     session
 }
@@ -136,72 +136,67 @@ fn take_rounds(
         channel: channel::fresh_channel(),
         tally: tally::no_tally(),
     };
-    let mut i: u32 = 0;
-    while i < times {
+    for _ in 0..times {
         session = take_events(setup, list, slave, master, single);
-        i += 1;
     }
     session
 }
 
-fn print_number(n: u64) {
-    io::print_decimal(STDOUT_FILENO, n);
-    io::write_all(STDOUT_FILENO, b"\n");
+fn print_number(output: &impl Print, n: u64) -> io::Result<()> {
+    println!(output; "{n}")
 }
 
-fn flag(b: bool) -> u64 {
-    if b { 1 } else { 0 }
-}
-
-fn print_asked(asked: Asked) {
+fn print_asked(output: &impl Print, asked: Asked) -> io::Result<()> {
     match asked {
-        Asked::Never => {
-            io::write_all(STDOUT_FILENO, b"not asked\n");
-        }
-        Asked::At(t) => {
-            print_number(t as u64);
-        }
+        Asked::Never => println!(output; "not asked"),
+        Asked::At(t) => print_number(output, u64::from(t)),
     }
 }
 
-fn print_level(inactive: bool, direction: u32, space: u32, address: u32, left: u32, offset: u32) {
-    print_number(flag(inactive));
-    print_number(direction as u64);
-    print_number(space as u64);
-    print_number(address as u64);
-    print_number(left as u64);
-    print_number(offset as u64);
+fn print_level(
+    output: &impl Print,
+    inactive: bool,
+    direction: u32,
+    space: u32,
+    address: u32,
+    left: u32,
+    offset: u32,
+) -> io::Result<()> {
+    print_number(output, u64::from(inactive))?;
+    print_number(output, u64::from(direction))?;
+    print_number(output, u64::from(space))?;
+    print_number(output, u64::from(address))?;
+    print_number(output, u64::from(left))?;
+    print_number(output, u64::from(offset))
 }
 
-fn print_levels(channel: Channel) {
-    let mut i: usize = 0;
-    while i < PLACES {
+fn print_levels(output: &impl Print, channel: Channel) -> io::Result<()> {
+    for i in 0..PLACES {
         print_level(
+            output,
             channel.inactive[i],
             channel.direction[i],
             channel.space[i],
             channel.address[i],
             channel.left[i],
             channel.offset[i],
-        );
-        i += 1;
+        )?;
     }
+    Ok(())
 }
 
-fn print_channel(channel: Channel) {
-    let phase = channel.phase;
-    let asked = channel.asked;
-    print_number(channel::owner_of(phase) as u64);
-    print_asked(asked);
-    print_number(channel.clock as u64);
-    print_levels(channel);
+fn print_channel(output: &impl Print, channel: Channel) -> io::Result<()> {
+    print_number(output, u64::from(channel::owner_of(channel.phase)))?;
+    print_asked(output, channel.asked)?;
+    print_number(output, u64::from(channel.clock))?;
+    print_levels(output, channel)
 }
 
-fn print_tally(tally: Tally) {
-    print_number(tally.grants as u64);
-    print_number(tally.cycles as u64);
-    print_number(tally.bytes as u64);
-    print_number(tally.hold as u64);
+fn print_tally(output: &impl Print, tally: Tally) -> io::Result<()> {
+    print_number(output, u64::from(tally.grants))?;
+    print_number(output, u64::from(tally.cycles))?;
+    print_number(output, u64::from(tally.bytes))?;
+    print_number(output, u64::from(tally.hold))
 }
 
 // The stores at the start, and a run of no steps on a fresh channel. That run is there so that `run` is called at two
@@ -218,76 +213,106 @@ fn prepare(setup: Setup, slave: &mut [u8], master: &mut [u8]) {
 }
 
 fn run_over(
+    output: &impl Print,
     setup: Setup,
     list: &[u32],
     slave: &mut [u8],
     master: &mut [u8],
     times: u32,
     single: bool,
-) {
+) -> io::Result<()> {
     prepare(setup, slave, master);
     let session = take_rounds(setup, list, slave, master, times, single);
-    let channel = session.channel;
-    let tally = session.tally;
-    print_channel(channel);
-    print_tally(tally);
-    print_number(sheethost::digest(slave));
-    print_number(sheethost::digest(master));
+    print_channel(output, session.channel)?;
+    print_tally(output, session.tally)?;
+    print_number(output, sheethost::digest(slave))?;
+    print_number(output, sheethost::digest(master))
 }
 
-fn run_list(list: &[u32], slave: &mut [u8], master: &mut [u8], times: u32, single: bool) {
+fn run_list(
+    output: &impl Print,
+    list: &[u32],
+    slave: &mut [u8],
+    master: &mut [u8],
+    times: u32,
+    single: bool,
+) -> io::Result<()> {
     let setup = sheetlist::setup_of(list, 4096);
     let slaves = setup.slaves;
     let size = frame::slave_store_length(slaves);
     if slave.len() < size {
-        return;
+        return Ok(());
     }
-    run_over(setup, list, &mut slave[..size], master, times, single);
+    run_over(
+        output,
+        setup,
+        list,
+        &mut slave[..size],
+        master,
+        times,
+        single,
+    )
 }
 
 // The numbers of the sheet are the first `count` of the list.
 fn run_first(
+    output: &impl Print,
     list: &[u32],
     count: usize,
     slave: &mut [u8],
     master: &mut [u8],
     times: u32,
     single: bool,
-) {
+) -> io::Result<()> {
     if list.len() < count {
-        return;
+        return Ok(());
     }
-    run_list(&list[..count], slave, master, times, single);
+    run_list(output, &list[..count], slave, master, times, single)
 }
 
-fn run_sheet(sheet: &[u8], slave: &mut [u8], master: &mut [u8], times: u32, single: bool) {
+fn run_sheet(
+    output: &impl Print,
+    sheet: &[u8],
+    slave: &mut [u8],
+    master: &mut [u8],
+    times: u32,
+    single: bool,
+) -> io::Result<()> {
     let mut list = [0u32; 7300];
     let answer = sheet::read_sheet(sheet, &mut list);
     match answer {
-        SheetAnswer::Refused(_, _) => {
-            io::write_all(STDOUT_FILENO, b"no sheet\n");
-        }
-        SheetAnswer::Done(count) => {
-            run_first(&list, count, slave, master, times, single);
-        }
+        SheetAnswer::Refused(_, _) => println!(output; "no sheet"),
+        SheetAnswer::Done(count) => run_first(output, &list, count, slave, master, times, single),
     }
 }
 
-fn main() {
+// Reads until the buffer is full or the input ends; answers how many bytes.
+fn read_full(input: &mut impl Read, buf: &mut [u8]) -> io::Result<usize>
+    ensures { IfOk result (λ n. n ≤ length buf.new) }
+{
+    let size = buf.len();
+    let mut room = buf;
+    let read = io::copy(&mut input.take(size as u64), &mut room)?;
+    Ok((read as usize).min(size))
+}
+
+fn main(rt: HostRuntime) -> io::Result<()> {
     let mut header = [0u8; 4];
-    let mut input = io::large_buffer();
-    let mut slave = io::large_buffer();
-    let mut master = io::buffer();
-    let single = 1 < os::arg_count();
-    if io::read_full(STDIN_FILENO, &mut header) < 4 {
-        return;
+    let mut input = [0u8; 65536];
+    let mut slave = [0u8; 65536];
+    let mut master = [0u8; 4096];
+    let single = !matches!(rt.arg(1, &mut [0u8; 16]), Err(FillError::NotPresent));
+    let mut reader = rt.reader();
+    if read_full(&mut reader, &mut header)? < 4 {
+        return Ok(());
     }
-    let got = io::read_full(STDIN_FILENO, &mut input);
+    let got = read_full(&mut reader, &mut input)?;
     run_sheet(
+        &rt,
         &input[..got],
         &mut slave,
         &mut master,
         sheethost::four_bytes(header),
         single,
-    );
+    )
 }

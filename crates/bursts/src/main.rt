@@ -8,7 +8,8 @@ ghost use Rattle.step.specs.Run.{world, run_of};
 use basics::{ROWS_MOST, SYSTEM_MASTER_U32};
 use channel::Channel;
 use frame::{LevelRow, LevelRows, Order, Setup, SlaveRow, SlaveRows};
-use libc::STDOUT_FILENO;
+use std::io;
+use std::process::ExitCode;
 use tally::Tally;
 
 fn levels() -> LevelRows {
@@ -106,8 +107,8 @@ fn tally_of(
     tally
 }
 
-// The cycles that have run and the longest hold, after `steps` steps; false where they can't be printed.
-fn show(setup: Setup, steps: u32) -> bool {
+// The cycles that have run and the longest hold, after `steps` steps.
+fn show(output: &impl Print, setup: Setup, steps: u32) -> io::Result<()> {
     let mut slave = [0u8; 8192];
     let mut master = [1u8; 4096];
     let channel = contended(setup);
@@ -119,52 +120,39 @@ fn show(setup: Setup, steps: u32) -> bool {
         &mut master,
         steps,
     );
-    print_pair(figures.cycles, figures.hold)
+    print_pair(output, figures.cycles, figures.hold)
 }
 
-fn print_pair(a: u32, b: u32) -> bool {
-    if !io::print_decimal(STDOUT_FILENO, a as u64) {
-        return false;
-    }
-    if !io::write_all(STDOUT_FILENO, b" ") {
-        return false;
-    }
-    if !io::print_decimal(STDOUT_FILENO, b as u64) {
-        return false;
-    }
-    io::write_all(STDOUT_FILENO, b"\n")
+fn print_pair(output: &impl Print, a: u32, b: u32) -> io::Result<()> {
+    println!(output; "{a} {b}")
 }
 
 // Two runs, of which the second has one step more: the last cycle of the burst.
-fn show_both(setup: Setup, steps: u32, more: u32) -> bool {
-    if !show(setup, steps) {
-        return false;
-    }
-    show(setup, more)
+fn show_both(output: &impl Print, setup: Setup, steps: u32, more: u32) -> io::Result<()> {
+    show(output, setup, steps)?;
+    show(output, setup, more)
 }
 
-fn show_all() -> bool {
+fn show_all(output: &impl Print) -> io::Result<()> {
     // W and P of 4, 200 ns: the 39th transfer is the last
-    if !show_both(frame_with(4, 200), 39, 40) {
-        return false;
-    }
+    show_both(output, frame_with(4, 200), 39, 40)?;
     // 300 ns: the 26th
-    if !show_both(frame_with(4, 300), 26, 27) {
-        return false;
-    }
+    show_both(output, frame_with(4, 300), 26, 27)?;
     // P of 1, 1,950 ns: one transfer, of four cycles
-    if !show_both(frame_with(1, 1950), 4, 5) {
-        return false;
-    }
+    show_both(output, frame_with(1, 1950), 4, 5)?;
     // a post at address 4,294,967,295 with length 4,096: refusal 4
     let setup = frame_with(4, 200);
     let fresh = channel::set_up(setup).channel;
     let verdict = post::post(setup, fresh, order(3, 4294967295, 4096)).verdict;
-    print_pair(refusal::verdict_number(verdict) as u32, 0)
+    print_pair(output, refusal::verdict_number(verdict) as u32, 0)
 }
 
-fn main() {
-    if !show_all() {
-        os::fail(b"bursts: standard output");
+fn main(rt: HostRuntime) -> ExitCode {
+    match show_all(&rt) {
+        Ok(()) => ExitCode::SUCCESS,
+        Err(error) => {
+            let _ = eprintln!(rt; "bursts: standard output: {error}");
+            ExitCode::FAILURE
+        }
     }
 }

@@ -1,6 +1,6 @@
 // The calls of the archive (document 02, CR 1 and 3): set-up, post, step, run, cycle count and why a level waits, for a host in C,
-// over the image in memory of its own. What include/lobrinkas.h declares is what stands here. Each call reads the image, makes the plain call, and writes
-// the new image before a byte moves: where that has no room, nothing has happened.
+// over the image in memory of its own. What include/lobrinkas.h declares is what stands here; crate `lobrinkas_c` exports it to C. Each call reads the
+// image, makes the plain call, and writes the new image before a byte moves: where that has no room, nothing has happened.
 #![tactic(auto)]
 
 mod answers;
@@ -78,8 +78,7 @@ pub struct Told {
 }
 
 // How many cycles a request takes.
-#[unsafe(no_mangle)]
-pub extern "C" fn lobrinkas_cycle_count(address: u32, bytes: u32, width: u32, port: u32) -> Counted
+pub fn lobrinkas_cycle_count(address: u32, bytes: u32, width: u32, port: u32) -> Counted
     ensures { result ≡ lobrinkas_cycle_count address bytes width port }
 {
     let count = cycle::cycle_count(address, bytes, width, port);
@@ -91,8 +90,7 @@ pub extern "C" fn lobrinkas_cycle_count(address: u32, bytes: u32, width: u32, po
 }
 
 // The first image of a set-up, which is a sheet's head as a list of numbers and the length of the master store.
-#[unsafe(no_mangle)]
-pub extern "C" fn lobrinkas_set_up(image: &mut [u8], head: &[u32], master_length: u32) -> Answer
+pub fn lobrinkas_set_up(image: &mut [u8], head: &[u32], master_length: u32) -> Answer
     ensures value { result ≡ (lobrinkas_set_up image.old head.now master_length).result }
     ensures image_after { image.new ≡ (lobrinkas_set_up image.old head.now master_length).image }
 {
@@ -109,8 +107,7 @@ pub extern "C" fn lobrinkas_set_up(image: &mut [u8], head: &[u32], master_length
 }
 
 // Posts a request.
-#[unsafe(no_mangle)]
-pub extern "C" fn lobrinkas_post(
+pub fn lobrinkas_post(
     image: &mut [u8],
     length: usize,
     level: u32,
@@ -147,8 +144,7 @@ pub extern "C" fn lobrinkas_post(
 }
 
 // One step.
-#[unsafe(no_mangle)]
-pub extern "C" fn lobrinkas_step(
+pub fn lobrinkas_step(
     image: &mut [u8],
     length: usize,
     slave: &mut [u8],
@@ -177,8 +173,7 @@ pub extern "C" fn lobrinkas_step(
 }
 
 // Up to `steps` steps. The last image is not known before: there has to be room for the longest.
-#[unsafe(no_mangle)]
-pub extern "C" fn lobrinkas_run(
+pub fn lobrinkas_run(
     image: &mut [u8],
     length: usize,
     slave: &mut [u8],
@@ -215,8 +210,7 @@ pub extern "C" fn lobrinkas_run(
 }
 
 // Why a level waits. The image is only read.
-#[unsafe(no_mangle)]
-pub extern "C" fn lobrinkas_why(image: &[u8], length: usize, level: u32) -> Told
+pub fn lobrinkas_why(image: &[u8], length: usize, level: u32) -> Told
     ensures { result ≡ lobrinkas_why image.now length level }
 {
     let read = image::read_image(image, length);

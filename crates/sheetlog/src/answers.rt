@@ -1,5 +1,6 @@
 // The answers of a sheet: after each event why a level waits, in words (document 02, CR 3), in the place of the log.
-use crate::log::{Kept, Session, flushed, going, stopped};
+use crate::failure::Failure;
+use crate::log::{Session, flushed};
 use channel::Channel;
 use frame::Setup;
 use sheetlist::Event;
@@ -18,54 +19,62 @@ fn play_event(
     match event {
         Event::Steps(steps) => {
             let ran = step::run(setup, channel, tally, slave, master, steps);
-            let next = ran.channel;
-            let figures = ran.tally;
-            going(next, figures, filled)
+            Session {
+                channel: ran.channel,
+                tally: ran.tally,
+                filled,
+            }
         }
         Event::Post(order) => {
             let judged = post::post(setup, channel, order);
-            let next = judged.channel;
-            going(next, tally, filled)
+            Session {
+                channel: judged.channel,
+                tally,
+                filled,
+            }
         }
     }
 }
 
 // The line of one level. No channel that a sheet leads to is unsound, so the question is not refused.
-fn tell_level(setup: Setup, session: Session, out: &mut [u8], event: u32, level: u32) -> Session {
+fn tell_level(
+    output: &impl Print,
+    setup: Setup,
+    session: Session,
+    out: &mut [u8],
+    event: u32,
+    level: u32,
+) -> Result<Session, Failure> {
     let channel = session.channel;
-    let tally = session.tally;
-    let kept = flushed(out, session.filled);
-    let Kept::Filled(at) = kept else {
-        return stopped(channel, tally);
-    };
+    let at = flushed(output, out, session.filled)?;
     let told = why::why(setup, channel, level);
-    let reason = told.reason;
-    let end = whyline::put_told(out, at, event, channel.clock, level, reason);
-    going(channel, tally, end)
+    let end = whyline::put_told(out, at, event, channel.clock, level, told.reason);
+    Ok(Session {
+        channel,
+        tally: session.tally,
+        filled: end,
+    })
 }
 
 // The lines of the levels that are asked about, after an event.
 fn tell_levels(
+    output: &impl Print,
     setup: Setup,
     session: Session,
     out: &mut [u8],
     levels: &[u32],
     event: u32,
-) -> Session {
+) -> Result<Session, Failure> {
     let mut next = session;
-    let mut i: usize = 0;
-    while i < levels.len() {
-        next = tell_level(setup, next, out, event, levels[i]);
-        if next.failed {
-            return next;
-        }
-        i += 1;
+    for level in levels {
+        next = tell_level(output, setup, next, out, event, *level)?;
     }
-    next
+    Ok(next)
 }
 
 // One event, and then the lines. Its number is counted from 1; no list has more than 1,024.
 pub(crate) fn tell_event(
+    output: &impl Print,
     setup: Setup,
     session: Session,
     slave: &mut [u8],
@@ -74,13 +83,18 @@ pub(crate) fn tell_event(
     event: Event,
     before: usize,
     levels: &[u32],
-) -> Session {
-    let channel = session.channel;
-    let tally = session.tally;
-    let filled = session.filled;
+) -> Result<Session, Failure> {
     let number = number_after(before);
-    let played = play_event(setup, channel, tally, slave, master, event, filled);
-    tell_levels(setup, played, out, levels, number)
+    let played = play_event(
+        setup,
+        session.channel,
+        session.tally,
+        slave,
+        master,
+        event,
+        session.filled,
+    );
+    tell_levels(output, setup, played, out, levels, number)
 }
 
 fn number_after(before: usize) -> u32 {

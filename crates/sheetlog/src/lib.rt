@@ -6,208 +6,189 @@
 #![tactic(auto)]
 
 mod answers;
+mod failure;
 mod log;
 mod streams;
 mod words;
 
+ghost use Rattle.std.specs.Prelude.{ℕ, List, ◌≡◌, ◌≤◌, length, take, IfOk, IfNone, IfSome, OnOk};
+ghost use Rattle.std.specs.Io.KnownBytes.{Consumes, IsAtEnd};
+ghost use Rattle.sheethost.specs.Host.{four_bytes};
+
+use failure::Failure;
 use log::run_sheet;
-use streams::{no_room, read_rest, read_whole, say};
-use words::{Level, is_word, level_in};
+use std::io::{Input, Read};
+use std::process::ExitCode;
+use std::rt::Env;
+use streams::{read_rest, read_whole};
+use words::{argument, level_in};
+
+// The most bytes of a sheet; a set-up has no longer slave store, and no longer part of a log is kept.
+const LARGE: usize = 65536;
+
+// The bytes of the master store.
+const MASTER: usize = 4096;
 
 // The levels that --many-why asks about: all there are, and numbers that are none.
 const ASKED: [u32; 19] = [
     0, 1, 2, 3, 4, 5, 6, 7, 8, 9, 10, 11, 12, 13, 14, 15, 16, 271, 4294967295,
 ];
 
-// What stands before the next sheet of many, or before the bytes of one.
-#[derive(Clone, Copy)]
-enum Next {
-    End,
-    Failed,
-    Sheet(usize),
-}
-
-// The length of the next sheet.
-fn next_size() -> Next {
+// The length of the next sheet; none where the input ends.
+fn next_size<R: Read>(input: &mut R) -> Result<Option<usize>, Failure>
+    ensures end { IfOk result (λ next. IfNone next (IsAtEnd (R.remaining input.old))) }
+    ensures size { IfOk result (λ next. IfSome next (λ size.
+        (bs : List ℕ) × (length bs ≡ 4) × (size ≡ four_bytes bs) × Consumes (R.remaining input.old) (R.remaining input.new) bs)) }
+{
     let mut header = [0u8; 4];
-    let got = read_whole(&mut header);
-    if got.failed {
-        return Next::Failed;
+    let got = read_whole(input, &mut header)?;
+    if got == 0 {
+        return Ok(None);
     }
-    if got.bytes == 0 {
-        return Next::End;
+    if got < 4 {
+        return Err(Failure::LengthCutOff);
     }
-    if got.bytes < 4 {
-        say(b"sheetrun: standard input: ends inside the length of a sheet\n");
-        return Next::Failed;
-    }
-    Next::Sheet(sheethost::four_bytes(header) as usize)
+    Ok(Some(sheethost::four_bytes(header) as usize))
 }
 
 // The bytes of a sheet of that length, at the start of the buffer.
-fn next_bytes(input: &mut [u8], size: usize) -> Next {
-    if input.len() < size {
-        say(b"sheetrun: standard input: a sheet of more than 65536 bytes\n");
-        return Next::Failed;
+fn next_bytes<R: Read>(input: &mut R, buf: &mut [u8], size: usize) -> Result<(), Failure>
+    ensures upper_bound { OnOk result (size ≤ length buf.new) }
+    ensures bytes { OnOk result (Consumes (R.remaining input.old) (R.remaining input.new) (take size buf.new)) }
+{
+    if buf.len() < size {
+        return Err(Failure::SheetTooLong);
     }
-    let got = read_whole(&mut input[..size]);
-    if got.failed {
-        return Next::Failed;
+    if read_whole(input, &mut buf[..size])? < size {
+        return Err(Failure::SheetCutOff);
     }
-    if got.bytes < size {
-        say(b"sheetrun: standard input: ends inside a sheet\n");
-        return Next::Failed;
-    }
-    Next::Sheet(size)
+    Ok(())
 }
 
-fn run_first(
-    input: &[u8],
-    size: usize,
-    slave: &mut [u8],
-    master: &mut [u8],
-    out: &mut [u8],
-    levels: &[u32],
-) -> Next {
-    if input.len() < size {
-        no_room();
-        return Next::Failed;
-    }
-    if !run_sheet(&input[..size], slave, master, out, levels, true) {
-        return Next::Failed;
-    }
-    Next::Sheet(size)
-}
-
-// One sheet of many.
+// One sheet of many; false where there is no other.
 fn run_next(
-    input: &mut [u8],
+    input: &mut impl Read,
+    output: &impl Print,
+    buf: &mut [u8],
     slave: &mut [u8],
     master: &mut [u8],
     out: &mut [u8],
     levels: &[u32],
-) -> Next {
-    let head = next_size();
-    let Next::Sheet(size) = head else {
-        return head;
+) -> Result<bool, Failure> {
+    let Some(size) = next_size(input)? else {
+        return Ok(false);
     };
-    let body = next_bytes(input, size);
-    let Next::Sheet(_) = body else {
-        return body;
-    };
-    run_first(input, size, slave, master, out, levels)
+    next_bytes(input, buf, size)?;
+    run_sheet(output, &buf[..size], slave, master, out, levels, true)?;
+    Ok(true)
 }
 
-// Sheets until the input ends; 1 where something failed.
+// Sheets until the input ends.
 fn run_all(
-    input: &mut [u8],
+    input: &mut impl Read,
+    output: &impl Print,
+    buf: &mut [u8],
     slave: &mut [u8],
     master: &mut [u8],
     out: &mut [u8],
     levels: &[u32],
-) -> u32 {
-    let mut i: u64 = 0;
-    while i < 18446744073709551615 {
-        let next = run_next(input, slave, master, out, levels);
-        match next {
-            Next::End => {
-                return 0;
-            }
-            Next::Failed => {
-                return 1;
-            }
-            Next::Sheet(_) => {
-                i += 1;
-            }
+) -> Result<(), Failure> {
+    for _ in 0..u64::MAX {
+        if !run_next(input, output, buf, slave, master, out, levels)? {
+            return Ok(());
         }
     }
-    0
+    Ok(())
 }
 
-fn run_many(levels: &[u32]) -> u32 {
-    let mut input = io::large_buffer();
-    let mut slave = io::large_buffer();
-    let mut master = io::buffer();
-    let mut out = io::large_buffer();
-    run_all(&mut input, &mut slave, &mut master, &mut out, levels)
+fn run_many(rt: &(impl Input + Print), levels: &[u32]) -> Result<(), Failure> {
+    let mut input = [0u8; LARGE];
+    let mut slave = [0u8; LARGE];
+    let mut master = [0u8; MASTER];
+    let mut out = [0u8; LARGE];
+    run_all(
+        &mut rt.reader(),
+        rt,
+        &mut input,
+        &mut slave,
+        &mut master,
+        &mut out,
+        levels,
+    )
 }
 
-// What follows the first 65,536 bytes has no part in the judgement, but whoever writes to a pipe is not cut off.
-fn read_past(size: usize, rest: &mut [u8]) -> bool {
-    if size < 65536 {
-        return true;
+// What follows the bytes of the longest sheet has no part in the judgement, but whoever writes to a pipe is not cut off.
+fn read_past(input: &mut impl Read, size: usize, rest: &mut [u8]) -> Result<(), Failure> {
+    if size < LARGE {
+        return Ok(());
     }
-    read_rest(rest)
+    read_rest(input, rest)
 }
 
-fn run_one(levels: &[u32]) -> u32 {
-    let mut input = io::large_buffer();
-    let mut slave = io::large_buffer();
-    let mut master = io::buffer();
-    let mut out = io::large_buffer();
-    let got = read_whole(&mut input);
-    let size = got.bytes;
-    if got.failed {
-        return 1;
-    }
-    if !read_past(size, &mut out) {
-        return 1;
-    }
-    if run_sheet(
+fn run_one(rt: &(impl Input + Print), levels: &[u32]) -> Result<(), Failure> {
+    let mut input = [0u8; LARGE];
+    let mut slave = [0u8; LARGE];
+    let mut master = [0u8; MASTER];
+    let mut out = [0u8; LARGE];
+    let mut reader = rt.reader();
+    let size = read_whole(&mut reader, &mut input)?;
+    read_past(&mut reader, size, &mut out)?;
+    run_sheet(
+        rt,
         &input[..size],
         &mut slave,
         &mut master,
         &mut out,
         levels,
         false,
-    ) {
-        0
-    } else {
-        1
-    }
-}
-
-fn usage() -> u32 {
-    say(b"usage: sheetrun [--many | --why LEVEL | --many-why] <sheet >log\n");
-    2
-}
-
-// The level that the second argument names, and why it waits.
-fn run_why() -> u32 {
-    let mut word = [0u8; 16];
-    let size = os::arg(2, &mut word);
-    let found = level_in(word, size);
-    match found {
-        Level::Bad => usage(),
-        Level::Any(level) => run_one(&[level]),
-    }
+    )
 }
 
 // One argument, which says what many sheets are to print.
-fn run_named(word: [u8; 16], size: usize) -> u32 {
-    if is_word(word, size, b"--many") {
-        return run_many(&[]);
+fn run_named(rt: &(impl Input + Print), word: &[u8]) -> Result<(), Failure> {
+    match word {
+        b"--many" => run_many(rt, &[]),
+        b"--many-why" => run_many(rt, &ASKED),
+        _ => Err(Failure::Usage),
     }
-    if is_word(word, size, b"--many-why") {
-        return run_many(&ASKED);
+}
+
+// Two arguments: the level that the second names, and why it waits.
+fn run_why(rt: &(impl Input + Print), word: &[u8], level: &[u8]) -> Result<(), Failure> {
+    if word != b"--why".as_slice() {
+        return Err(Failure::Usage);
     }
-    usage()
+    match level_in(level) {
+        Some(level) => run_one(rt, &[level]),
+        None => Err(Failure::Usage),
+    }
+}
+
+fn run_program(rt: &(impl Input + Print + Env)) -> Result<(), Failure> {
+    let mut first = [0u8; 16];
+    let mut second = [0u8; 16];
+    let mut third = [0u8; 16];
+    let Some(word) = argument(rt, 1, &mut first) else {
+        return run_one(rt, &[]);
+    };
+    let Some(level) = argument(rt, 2, &mut second) else {
+        return run_named(rt, word);
+    };
+    if argument(rt, 3, &mut third).is_some() {
+        return Err(Failure::Usage);
+    }
+    run_why(rt, word, level)
 }
 
 // The program; answers its status: 0, 1 where a read or a write failed or the input was cut off, 2 where it was called wrongly.
-// A sheet's own fault is a line of the log, and no failure.
-pub fn sheetrun() -> u32 {
-    let count = os::arg_count();
-    if count < 2 {
-        return run_one(&[]);
+// What failed is told on standard error, once; where not even that can be written there is nobody to tell, and the status
+// still says it. A sheet's own fault is a line of the log, and no failure.
+pub fn sheetrun(rt: &(impl Input + Print + Eprint + Env)) -> ExitCode {
+    match run_program(rt) {
+        Ok(()) => ExitCode::SUCCESS,
+        Err(failure) => {
+            let _ = rt.eprintln(failure);
+            failure.status()
+        }
     }
-    let mut word = [0u8; 16];
-    let size = os::arg(1, &mut word);
-    if count == 2 {
-        return run_named(word, size);
-    }
-    if (count == 3) & is_word(word, size, b"--why") {
-        return run_why();
-    }
-    usage()
 }

@@ -1,9 +1,8 @@
 // One sheet: its judgement, its events one after the other, and its log, in a buffer that is written where it is full. Where a
 // write fails nothing more is run or written.
-ghost use Rattle.std.specs.Prelude.{◌+◌, ◌≤◌};
-
 use crate::answers::tell_event;
-use crate::streams::{no_room, write_first};
+use crate::failure::Failure;
+use crate::streams::write_first;
 use channel::Channel;
 use frame::{Order, Setup};
 use refusal::{Refusal, Verdict};
@@ -11,80 +10,56 @@ use sheet::SheetAnswer;
 use sheetlist::Event;
 use tally::Tally;
 
-// The channel and the tally as the log goes on, how much of the buffer is filled, and whether a write has failed.
+// The channel and the tally as the log goes on, and how much of the buffer is filled.
 #[derive(Clone, Copy)]
 pub(crate) struct Session {
     pub(crate) channel: Channel,
     pub(crate) tally: Tally,
     pub(crate) filled: usize,
-    pub(crate) failed: bool,
 }
 
-// How much of the buffer is filled, or that it could not be written.
-#[derive(Clone, Copy)]
-pub(crate) enum Kept {
-    Failed,
-    Filled(usize),
-}
-
-// Writes what the buffer holds where no other line may fit.
-pub(crate) fn flushed(out: &[u8], filled: usize) -> Kept {
+// Writes what the buffer holds where no other line may fit; answers how much of it is filled then.
+pub(crate) fn flushed(output: &impl Print, out: &[u8], filled: usize) -> Result<usize, Failure> {
     if logline::has_room(out.len(), filled) {
-        return Kept::Filled(filled);
+        return Ok(filled);
     }
-    if write_first(out, filled) {
-        Kept::Filled(0)
-    } else {
-        Kept::Failed
-    }
-}
-
-pub(crate) fn stopped(channel: Channel, tally: Tally) -> Session {
-    Session {
-        channel: channel,
-        tally: tally,
-        filled: 0,
-        failed: true,
-    }
-}
-
-pub(crate) fn going(channel: Channel, tally: Tally, filled: usize) -> Session {
-    Session {
-        channel: channel,
-        tally: tally,
-        filled: filled,
-        failed: false,
-    }
+    write_first(output, out, filled)?;
+    Ok(0)
 }
 
 // The line of an event that ends where the clock is full.
-fn log_stop(channel: Channel, tally: Tally, filled: usize, out: &mut [u8]) -> Session {
-    let kept = flushed(out, filled);
-    let Kept::Filled(at) = kept else {
-        return stopped(channel, tally);
-    };
+fn log_stop(
+    output: &impl Print,
+    channel: Channel,
+    tally: Tally,
+    filled: usize,
+    out: &mut [u8],
+) -> Result<Session, Failure> {
+    let at = flushed(output, out, filled)?;
     let end = logline::put_stop(out, at, channel.clock);
-    going(channel, tally, end)
+    Ok(Session {
+        channel,
+        tally,
+        filled: end,
+    })
 }
 
 // Up to `steps` steps, each with its line, as many at once as the buffer has room for; a step that meets 6 ends the event.
 fn log_steps(
+    output: &impl Print,
     setup: Setup,
     session: Session,
     slave: &mut [u8],
     master: &mut [u8],
     out: &mut [u8],
     steps: u32,
-) -> Session {
+) -> Result<Session, Failure> {
     let mut channel = session.channel;
     let mut tally = session.tally;
     let mut filled = session.filled;
     let mut rest = steps;
     while 0 < rest {
-        let kept = flushed(out, filled);
-        let Kept::Filled(at) = kept else {
-            return stopped(channel, tally);
-        };
+        let at = flushed(output, out, filled)?;
         let logged = step::log_run(setup, channel, tally, slave, master, out, at, rest);
         let ran = logged.ran;
         channel = ran.channel;
@@ -92,59 +67,66 @@ fn log_steps(
         filled = logged.end;
         let verdict = ran.verdict;
         let Verdict::Accepted = verdict else {
-            return log_stop(channel, tally, filled, out);
+            return log_stop(output, channel, tally, filled, out);
         };
         if ran.steps == 0 {
-            no_room();
-            return stopped(channel, tally);
+            return Err(Failure::NoRoom);
         }
         rest = basics::less(rest, ran.steps);
     }
-    going(channel, tally, filled)
+    Ok(Session {
+        channel,
+        tally,
+        filled,
+    })
 }
 
-fn log_post(setup: Setup, session: Session, out: &mut [u8], order: Order) -> Session {
-    let channel = session.channel;
-    let tally = session.tally;
-    let kept = flushed(out, session.filled);
-    let Kept::Filled(at) = kept else {
-        return stopped(channel, tally);
-    };
-    let judged = post::post(setup, channel, order);
+fn log_post(
+    output: &impl Print,
+    setup: Setup,
+    session: Session,
+    out: &mut [u8],
+    order: Order,
+) -> Result<Session, Failure> {
+    let at = flushed(output, out, session.filled)?;
+    let judged = post::post(setup, session.channel, order);
     let next = judged.channel;
-    let verdict = judged.verdict;
-    let number = refusal::verdict_number(verdict) as u32;
+    let number = refusal::verdict_number(judged.verdict) as u32;
     let end = logline::put_post(out, at, next.clock, order.level, number);
-    going(next, tally, end)
+    Ok(Session {
+        channel: next,
+        tally: session.tally,
+        filled: end,
+    })
 }
 
 // The events of a valid list, one after the other, and the last line.
 fn take_events(
+    output: &impl Print,
     setup: Setup,
     list: &[u32],
     slave: &mut [u8],
     master: &mut [u8],
     out: &mut [u8],
     levels: &[u32],
-) -> Session {
-    let mut session = going(channel::fresh_channel(), tally::no_tally(), 0);
-    let count = sheetlist::event_count(list);
+) -> Result<Session, Failure> {
+    let mut session = Session {
+        channel: channel::fresh_channel(),
+        tally: tally::no_tally(),
+        filled: 0,
+    };
     let mut at = sheetlist::first_event(list);
-    let mut i: usize = 0;
-    while i < count {
+    for i in 0..sheetlist::event_count(list) {
         let event = sheetlist::event_at(list, at);
-        session = take_event(setup, session, slave, master, out, event, i, levels);
-        if session.failed {
-            return session;
-        }
+        session = take_event(output, setup, session, slave, master, out, event, i, levels)?;
         at = sheetlist::next_event(list, at);
-        i += 1;
     }
-    finish(session, out, levels)
+    finish(output, session, out, levels)
 }
 
 // An event, the i-th from 0 on: with its log lines, or with the answers of the levels after it.
 fn take_event(
+    output: &impl Print,
     setup: Setup,
     session: Session,
     slave: &mut [u8],
@@ -153,115 +135,114 @@ fn take_event(
     event: Event,
     i: usize,
     levels: &[u32],
-) -> Session {
-    if levels.len() == 0 {
-        return log_event(setup, session, slave, master, out, event);
+) -> Result<Session, Failure> {
+    if levels.is_empty() {
+        return log_event(output, setup, session, slave, master, out, event);
     }
-    tell_event(setup, session, slave, master, out, event, i, levels)
+    tell_event(output, setup, session, slave, master, out, event, i, levels)
 }
 
 fn log_event(
+    output: &impl Print,
     setup: Setup,
     session: Session,
     slave: &mut [u8],
     master: &mut [u8],
     out: &mut [u8],
     event: Event,
-) -> Session {
+) -> Result<Session, Failure> {
     match event {
-        Event::Steps(steps) => log_steps(setup, session, slave, master, out, steps),
-        Event::Post(order) => log_post(setup, session, out, order),
+        Event::Steps(steps) => log_steps(output, setup, session, slave, master, out, steps),
+        Event::Post(order) => log_post(output, setup, session, out, order),
     }
 }
 
 // Answers have no last line.
-fn finish(session: Session, out: &mut [u8], levels: &[u32]) -> Session {
-    if levels.len() != 0 {
-        return session;
+fn finish(
+    output: &impl Print,
+    session: Session,
+    out: &mut [u8],
+    levels: &[u32],
+) -> Result<Session, Failure> {
+    if !levels.is_empty() {
+        return Ok(session);
     }
     let channel = session.channel;
     let tally = session.tally;
-    let kept = flushed(out, session.filled);
-    let Kept::Filled(at) = kept else {
-        return stopped(channel, tally);
-    };
+    let at = flushed(output, out, session.filled)?;
     let end = logline::put_end(out, at, channel.clock, tally.bytes);
-    going(channel, tally, end)
-}
-
-// A space and a number, in a line; answers where they end.
-fn put_number(line: &mut [u8; 128], at: usize, n: u64) -> usize
-    requires { at + 21 ≤ 128 }
-    ensures { result ≤ at + 21 }
-{
-    let mut digits = [0u8; 20];
-    let size = io::decimal(n, &mut digits);
-    line[at] = b' ';
-    let mut i: usize = 0;
-    while i < size {
-        line[at + 1 + i] = digits[i];
-        i += 1;
-    }
-    at + 1 + size
+    Ok(Session {
+        channel,
+        tally,
+        filled: end,
+    })
 }
 
 // The line of a sheet's digests and tally.
-fn print_digests(slave: &[u8], master: &[u8], tally: Tally) -> bool {
-    let mut line = [b'D'; 128];
-    let mut at: usize = 1;
-    at = put_number(&mut line, at, sheethost::digest(slave));
-    at = put_number(&mut line, at, sheethost::digest(master));
-    at = put_number(&mut line, at, tally.grants as u64);
-    at = put_number(&mut line, at, tally.cycles as u64);
-    at = put_number(&mut line, at, tally.bytes as u64);
-    at = put_number(&mut line, at, tally.hold as u64);
-    line[at] = b'\n';
-    print_line(&line, at + 1)
-}
-
-fn print_line(line: &[u8; 128], size: usize) -> bool {
-    write_first(line, size)
+fn print_digests(
+    output: &impl Print,
+    slave: &[u8],
+    master: &[u8],
+    tally: Tally,
+) -> Result<(), Failure> {
+    let slave_digest = sheethost::digest(slave);
+    let master_digest = sheethost::digest(master);
+    let Tally {
+        grants,
+        cycles,
+        bytes,
+        hold,
+    } = tally;
+    println!(output; "D {slave_digest} {master_digest} {grants} {cycles} {bytes} {hold}").map_err(
+        Failure::Output,
+    )
 }
 
 // A bad sheet prints only its refusal and the place.
-fn log_fault(why: Refusal, place: usize, out: &mut [u8]) -> bool {
+fn log_fault(
+    output: &impl Print,
+    why: Refusal,
+    place: usize,
+    out: &mut [u8],
+) -> Result<(), Failure> {
     let number = refusal::refusal_number(why) as u32;
     if 65535 < place {
-        return no_room();
+        return Err(Failure::NoRoom);
     }
     let filled = logline::put_fault(out, 0, number, place as u32);
-    write_first(out, filled)
+    write_first(output, out, filled)
 }
 
-// One sheet, whole: its log, or where levels are asked about, why they wait; `digests` asks for the line after it. False where a
-// write failed.
+// One sheet, whole: its log, or where levels are asked about, why they wait; `digests` asks for the line after it.
 pub(crate) fn run_sheet(
+    output: &impl Print,
     sheet: &[u8],
     slave: &mut [u8],
     master: &mut [u8],
     out: &mut [u8],
     levels: &[u32],
     digests: bool,
-) -> bool {
+) -> Result<(), Failure> {
     sheethost::fill_master(master);
     let mut list = [0u32; 7300];
     let answer = sheet::read_sheet(sheet, &mut list);
     match answer {
         SheetAnswer::Refused(why, place) => {
-            if !log_fault(why, place, out) {
-                return false;
-            }
+            log_fault(output, why, place, out)?;
             if digests {
-                return print_digests(b"", master, tally::no_tally());
+                return print_digests(output, b"", master, tally::no_tally());
             }
-            true
+            Ok(())
         }
-        SheetAnswer::Done(count) => run_first(&list, count, slave, master, out, levels, digests),
+        SheetAnswer::Done(count) => {
+            run_first(output, &list, count, slave, master, out, levels, digests)
+        }
     }
 }
 
 // The numbers of the sheet are the first `count` of the list.
 fn run_first(
+    output: &impl Print,
     list: &[u32],
     count: usize,
     slave: &mut [u8],
@@ -269,28 +250,30 @@ fn run_first(
     out: &mut [u8],
     levels: &[u32],
     digests: bool,
-) -> bool {
+) -> Result<(), Failure> {
     if list.len() < count {
-        return no_room();
+        return Err(Failure::NoRoom);
     }
-    run_list(&list[..count], slave, master, out, levels, digests)
+    run_list(output, &list[..count], slave, master, out, levels, digests)
 }
 
 fn run_list(
+    output: &impl Print,
     list: &[u32],
     slave: &mut [u8],
     master: &mut [u8],
     out: &mut [u8],
     levels: &[u32],
     digests: bool,
-) -> bool {
+) -> Result<(), Failure> {
     let setup = sheetlist::setup_of(list, 4096);
     let slaves = setup.slaves;
     let size = frame::slave_store_length(slaves);
     if slave.len() < size {
-        return no_room();
+        return Err(Failure::NoRoom);
     }
     run_over(
+        output,
         setup,
         list,
         &mut slave[..size],
@@ -302,6 +285,7 @@ fn run_list(
 }
 
 fn run_over(
+    output: &impl Print,
     setup: Setup,
     list: &[u32],
     slave: &mut [u8],
@@ -309,18 +293,12 @@ fn run_over(
     out: &mut [u8],
     levels: &[u32],
     digests: bool,
-) -> bool {
+) -> Result<(), Failure> {
     sheethost::fill_slave(slave);
-    let session = take_events(setup, list, slave, master, out, levels);
-    if session.failed {
-        return false;
-    }
-    if !write_first(out, session.filled) {
-        return false;
-    }
+    let session = take_events(output, setup, list, slave, master, out, levels)?;
+    write_first(output, out, session.filled)?;
     if digests {
-        let tally = session.tally;
-        return print_digests(slave, master, tally);
+        return print_digests(output, slave, master, session.tally);
     }
-    true
+    Ok(())
 }

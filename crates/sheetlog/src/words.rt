@@ -1,56 +1,21 @@
 // The arguments of the program: a word of its own, or the number of a level.
+use std::env::FillError;
+use std::rt::Env;
+use std::str;
 
-// The level that an argument names; any number may be one.
-#[derive(Clone, Copy)]
-pub(crate) enum Level {
-    Bad,
-    Any(u32),
+// Argument i, at the start of the buffer. One of more than 16 bytes is no word of ours, and comes out empty.
+pub(crate) fn argument<'a>(rt: &impl Env, i: usize, buffer: &'a mut [u8; 16]) -> Option<&'a [u8]> {
+    match rt.arg(i, buffer) {
+        Ok(size) => Some(&buffer[..size]),
+        Err(FillError::TooLong) => Some(&[]),
+        Err(FillError::NotPresent) => None,
+    }
 }
 
-// Whether an argument of that size is a word.
-pub(crate) fn is_word(argument: [u8; 16], size: usize, word: &[u8]) -> bool {
-    if 16 < size {
-        return false;
+// The level that an argument names: one to ten digits, of a number up to 4,294,967,295. Any number may be a level.
+pub(crate) fn level_in(argument: &[u8]) -> Option<u32> {
+    if 10 < argument.len() || !argument.iter().all(|byte| byte.is_ascii_digit()) {
+        return None;
     }
-    if size != word.len() {
-        return false;
-    }
-    let mut i: usize = 0;
-    while i < size {
-        if argument[i] != word[i] {
-            return false;
-        }
-        i += 1;
-    }
-    true
-}
-
-// One to ten digits, of a number up to 4,294,967,295. A longer argument has size 0.
-pub(crate) fn level_in(argument: [u8; 16], size: usize) -> Level {
-    if size == 0 {
-        return Level::Bad;
-    }
-    if 10 < size {
-        return Level::Bad;
-    }
-    let mut number: u64 = 0;
-    let mut i: usize = 0;
-    while i < size {
-        let digit = argument[i];
-        if digit < b'0' {
-            return Level::Bad;
-        }
-        if b'9' < digit {
-            return Level::Bad;
-        }
-        if 429496729 < number {
-            return Level::Bad;
-        }
-        number = number * 10 + (digit - b'0') as u64;
-        i += 1;
-    }
-    if 4294967295 < number {
-        return Level::Bad;
-    }
-    Level::Any(number as u32)
+    str::from_utf8(argument).ok()?.parse().ok()
 }
