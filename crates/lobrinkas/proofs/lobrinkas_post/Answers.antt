@@ -1,0 +1,50 @@
+use borrow.Author.Rules.{rules}
+use mathlib.Core.Path.{ap, ◌∙◌}
+use native.Mathlib.Omega.{arith}
+use Rattle.channel.specs.declared.Judged.{Judged}
+use Rattle.image.proofs.ImageLaws.{image_none, image_short, image_on}
+use Rattle.lobrinkas.specs.Calls.{Answered, order}
+use Rattle.lobrinkas.specs.inner.Finish.{answer_finished}
+use Rattle.lobrinkas.proofs.CallLaws.{post_malformed, post_is, tail_of}
+use Rattle.lobrinkas.proofs.lobrinkas_post.Goals as goal
+
+pub returns-in_default : goal.returns-in_default
+returns-in_default c =
+    let a = c.args in
+    let p = order a.level a.direction a.space a.address a.bytes a.offset in
+    let bad = image_none a.image.now a.length c.read_setup-head.ensures c.in_default.is in
+    let all = post_malformed a.image.now a.length bad p in
+    record {
+      value = c.refused_answer.ensures ∙ ap (λ (x : Answered). x.result) all;
+      image_after = ap (λ (x : Answered). x.image) all;
+    }
+
+pub returns-in_default-last : goal.returns-in_default-last
+returns-in_default-last c =
+    let a = c.args in
+    let p = order a.level a.direction a.space a.address a.bytes a.offset in
+    let bad = image_short a.image.now a.length c.read_setup-head.ensures c.in-Good.is
+    c.read_channel-rest.ensures c.in_default-last.is in
+    let all = post_malformed a.image.now a.length bad p in
+    record {
+      value = c.refused_answer-in_default-last.ensures ∙ ap (λ (x : Answered). x.result) all;
+      image_after = ap (λ (x : Answered). x.image) all;
+    }
+
+pub returns : goal.returns
+returns c =
+    let a = c.args in
+    let image = c.args.image.now in
+    let p = order a.level a.direction a.space a.address a.bytes a.offset in
+    let head = c.read_setup-head in
+    let rest = c.read_channel-rest in
+    let read = image_on image a.length head.ensures c.in-Good.is rest.ensures c.in-Good-last.is in
+    let tail = tail_of image a.length (λ i. omega (arith, c.slice_known-1.given i)) head.ensures
+    c.in-Good.is in
+    let plain = ap (λ (j : Judged). answer_finished j image a.length c.in-Good.start) c.post.ensures in
+    let all = c.finish_answer.ensures ∙ plain
+    ∙ post_is head.result.setup image c.in-Good.start tail a.length rest.result.channel read p in
+    record {
+      value = ap (λ (x : Answered). x.result) all;
+      image_after = ap (λ (x : Answered). x.image) all;
+    }
