@@ -9,32 +9,32 @@ use types.Logic.{Logic}
 use contract.Monad.{Fun}
 use denote.Triple.Clauses.{Ended}
 use Rattle.frame.specs.Find.{StartFits}
-use Rattle.refusal.proofs as refusal
-use Rattle.basics.proofs as basics
-use Rattle.number.proofs as number
-use Rattle.numbers.proofs as numbers
-use Rattle.cycle.proofs as cycle
-use Rattle.frame.proofs as frame
-use Rattle.channel.proofs as channel
-use Rattle.act.proofs as act
-use Rattle.sound.proofs as sound
-use Rattle.post.proofs as post
-use Rattle.tally.proofs as tally
-use Rattle.step.proofs as step
-use Rattle.why.proofs as why
-use Rattle.whyline.proofs as whyline
-use Rattle.lent.proofs as lent
-use Rattle.logline.proofs as logline
-use Rattle.sheet.proofs as sheet
-use Rattle.sheetlist.proofs as sheetlist
-use Rattle.image.proofs as image
-use Rattle.lobrinkas.proofs as lobrinkas
-use Rattle.sheethost.proofs as sheethost
+use Rattle.refusal.specs.contracts as refusal
+use Rattle.basics.specs.contracts as basics
+use Rattle.number.specs.contracts as number
+use Rattle.numbers.specs.contracts as numbers
+use Rattle.cycle.specs.contracts as cycle
+use Rattle.frame.specs.contracts as frame
+use Rattle.channel.specs.contracts as channel
+use Rattle.act.specs.contracts as act
+use Rattle.sound.specs.contracts as sound
+use Rattle.post.specs.contracts as post
+use Rattle.tally.specs.contracts as tally
+use Rattle.step.specs.contracts as step
+use Rattle.why.specs.contracts as why
+use Rattle.whyline.specs.contracts as whyline
+use Rattle.lent.specs.contracts as lent
+use Rattle.logline.specs.contracts as logline
+use Rattle.sheet.specs.contracts as sheet
+use Rattle.sheetlist.specs.contracts as sheetlist
+use Rattle.image.specs.contracts as image
+use Rattle.lobrinkas.specs.contracts as lobrinkas
+use Rattle.sheethost.specs.contracts as sheethost
 use Rattle.examples.proofs.Unique as unique
 use Rattle.examples.proofs.Unique.{Contract, alone, only_lent, only_two, lent_one, lent_two, lent_three, besides}
 
 module _ {M : Type 1} {𝓤 : Ura M} (𝓛 : Logic 𝓤) (mem : Memory → SProp 𝓤) (call : Routine → Fun 𝓤) where
-  abbrev One : (T : Ended) → Contract M T → Type 1
+  abbrev One : (T : Ended) → Contract 𝓤 T → Type 1
   One = unique.One 𝓛 mem call
 
   of_refusal : One refusal.refusal_number.ended refusal.refusal_number.clauses

@@ -46,18 +46,18 @@ use Rattle.lobrinkas.specs.declared.Counted.{Counted as CountCall}
 use Rattle.lobrinkas.specs.declared.Told.{Told as WhyCall}
 use Rattle.why.specs.declared.Told.{Told}
 use Rattle.lobrinkas.specs.Calls.{order}
-use Rattle.number.proofs as number
-use Rattle.numbers.proofs as numbers
-use Rattle.cycle.proofs as cycle
-use Rattle.channel.proofs as channel
-use Rattle.sound.proofs as sound
-use Rattle.post.proofs as post
-use Rattle.step.proofs as step
-use Rattle.why.proofs as why
-use Rattle.lent.proofs as lent
-use Rattle.sheet.proofs as sheet
-use Rattle.image.proofs as image
-use Rattle.lobrinkas.proofs as lobrinkas
+use Rattle.number.specs.contracts as number
+use Rattle.numbers.specs.contracts as numbers
+use Rattle.cycle.specs.contracts as cycle
+use Rattle.channel.specs.contracts as channel
+use Rattle.sound.specs.contracts as sound
+use Rattle.post.specs.contracts as post
+use Rattle.step.specs.contracts as step
+use Rattle.why.specs.contracts as why
+use Rattle.lent.specs.contracts as lent
+use Rattle.sheet.specs.contracts as sheet
+use Rattle.image.specs.contracts as image
+use Rattle.lobrinkas.specs.contracts as lobrinkas
 use Rattle.examples.specs.Numbers.{
   first_number,
   broken,
@@ -108,7 +108,7 @@ use Rattle.examples.proofs.NumberLaws.{
 
 module _ {M : Type 1} {𝓤 : Ura M} (𝓛 : Logic 𝓤) (mem : Memory → SProp 𝓤) (call : Routine → Fun 𝓤) where
   -- a contract tells something of its result
-  abbrev Tells : (T : Ended) → Contract M T
+  abbrev Tells : (T : Ended) → Contract 𝓤 T
       → ((κs : Lfts T.signature.lifetimes) → Args T.signature κs → Res T.signature κs → Type 0) → Type 1
   Tells T c K =
       (κs : Lfts T.signature.lifetimes) (a : Args T.signature κs) (g : (c 𝓛 mem call κs a).ghost)

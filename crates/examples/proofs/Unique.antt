@@ -84,12 +84,12 @@ module _ {M : Type 1} (𝓤 : Ura M) where
       single _ (λ r ws. (r ≡ d) × more r) (λ r ws. both _ _) (λ r r' ws ws' p q. (p.0 ∙ sym q.0, still ws ws'))
 
 -- a function's contract, as the checker has it
-abbrev pub Contract : Type 1 → Ended → Type 2
-Contract M T = (𝓤 : Ura M) (𝓛 : Logic 𝓤) → (Memory → SProp 𝓤) → (Routine → Fun 𝓤) → Clauses 𝓤 T
+abbrev pub Contract : {M : Type 1} (𝓤 : Ura M) → Ended → Type 2
+Contract 𝓤 T = Logic 𝓤 → (Memory → SProp 𝓤) → (Routine → Fun 𝓤) → Clauses 𝓤 T
 
 -- it has a single outcome for each input
 module _ {M : Type 1} {𝓤 : Ura M} (𝓛 : Logic 𝓤) (mem : Memory → SProp 𝓤) (run : Routine → Fun 𝓤) where
-  abbrev pub One : (T : Ended) → Contract M T → Type 1
+  abbrev pub One : (T : Ended) → Contract 𝓤 T → Type 1
   One T c =
       (κs : Lfts T.signature.lifetimes) (a : Args T.signature κs) (g : (c 𝓛 mem run κs a).ghost)
       → Single 𝓤 (λ r (ws : Lasts T κs a). (c 𝓛 mem run κs a).ensures g r (at_exit T κs a ws))
