@@ -1,9 +1,9 @@
 /*
  * A small emulator on Lobrinkas: a digitiser, a counter card and a synthesiser.
  *
- * It runs its cards until a tuning word is half on its way, says what each card
- * waits for, saves the machine there, goes on, restores it, goes on again, and
- * holds the two logs to each other. The log lines are sheetrun's. Status 0: both logs are alike; 1: they
+ * It runs its cards until a tuning word is half on its way, saves the machine
+ * there, goes on, restores it, goes on again, and holds the two logs to each
+ * other. The log lines are sheetrun's. Status 0: both logs are alike; 1: they
  * are not, or a call was refused that should not have been.
  */
 #include "lobrinkas.h"
@@ -139,36 +139,6 @@ static struct lobrinkas_stepped emulate(struct machine *machine, struct log *log
     return step;
 }
 
-/* What a card waits for, in the words of sheetrun --why. The call only reads: it may be asked at any moment, of any level. */
-static void explain(const struct machine *machine, uint32_t level, struct log *log)
-{
-    struct lobrinkas_told told = lobrinkas_why(machine->image, sizeof machine->image, machine->length, level);
-    must("why", told.refusal);
-    note(log, "level %u: ", level);
-    switch (told.reason) {
-    case LOBRINKAS_NOT_PRESENT:
-        note(log, "not present\n");
-        break;
-    case LOBRINKAS_NO_REQUEST:
-        note(log, "no request\n");
-        break;
-    case LOBRINKAS_OWNS:
-        note(log, "owns the channel\n");
-        break;
-    case LOBRINKAS_INACTIVE:
-        note(log, "inactive; others go first\n");
-        break;
-    case LOBRINKAS_HOLDS:
-        note(log, "waits; level %u still holds\n", told.level);
-        break;
-    case LOBRINKAS_OUTRANKED:
-        note(log, "outranked; level %u wins next\n", told.level);
-        break;
-    default:
-        note(log, "wins next\n");
-    }
-}
-
 /* What comes after the save: steps one by one, then all cards ask and many steps go at once, which leave a tally and no lines. */
 static void go_on(struct machine *machine, struct log *log)
 {
@@ -195,7 +165,7 @@ static void go_on(struct machine *machine, struct log *log)
 int main(void)
 {
     static struct machine machine, saved; /* static: stores, tally and clock start with zeros */
-    static struct log before, told, first, second;
+    static struct log before, first, second;
 
     struct lobrinkas_answer answer =
         lobrinkas_set_up(machine.image, sizeof machine.image, head, sizeof head / sizeof head[0], MASTER_LENGTH);
@@ -209,10 +179,8 @@ int main(void)
     do
         step = emulate(&machine, &before);
     while (step.address != SYNTHESISER + 1 || step.ending != LOBRINKAS_KEPT);
-    for (size_t i = 0; i < CARDS; i++)
-        explain(&machine, cards[i].level, &told);
     saved = machine;
-    printf("%s%ssaved inside a transfer, an image of %zu bytes\n", before.text, told.text, saved.length);
+    printf("%ssaved inside a transfer, an image of %zu bytes\n", before.text, saved.length);
 
     go_on(&machine, &first);
     machine = saved;

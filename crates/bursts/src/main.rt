@@ -8,8 +8,8 @@ ghost use Rattle.step.specs.Run.{world, run_of};
 use basics::{ROWS_MOST, SYSTEM_MASTER_U32};
 use channel::Channel;
 use frame::{LevelRow, LevelRows, Order, Setup, SlaveRow, SlaveRows};
-use std::io;
-use std::process::ExitCode;
+use std::io::Write;
+use std::{io, str};
 use tally::Tally;
 
 fn levels() -> LevelRows {
@@ -147,12 +147,20 @@ fn show_all(output: &impl Print) -> io::Result<()> {
     print_pair(output, refusal::verdict_number(verdict) as u32, 0)
 }
 
-fn main(rt: HostRuntime) -> ExitCode {
-    match show_all(&rt) {
-        Ok(()) => ExitCode::SUCCESS,
-        Err(error) => {
-            let _ = eprintln!(rt; "bursts: standard output: {error}");
-            ExitCode::FAILURE
-        }
+// Why the output could not be written, in the system's own words: an error's text without the number that std writes after it.
+fn tell(rt: &impl Eprint, error: io::Error) -> io::Result<()> {
+    let mut buffer = [0u8; 128];
+    let mut rest = &mut buffer[..];
+    write!(rest, "{error}")?;
+    let size = 128usize.saturating_sub(rest.len());
+    let text = str::from_utf8(&buffer[..size]).unwrap_or("");
+    let words = text.split(" (os error ").next().unwrap_or(text);
+    eprintln!(rt; "bursts: standard output: {words}")
+}
+
+// A run that could not be shown is told, and the status is 0 all the same.
+fn main(rt: HostRuntime) {
+    if let Err(error) = show_all(&rt) {
+        let _ = tell(&rt, error);
     }
 }

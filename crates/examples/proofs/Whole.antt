@@ -251,7 +251,8 @@ pub record History : Type 0 where
   pub master_3 : last_into setup master_side 3 begin acts ≡ start
   pub as_runs_lem : acts_over setup begin as_runs ≡ acts
 
-computed : Whole × (Lines × (Bursts × (Grants × (Waits × History))))
+-- all of them at once, as they share most of what is computed
+all_computed : Whole × (Lines × (Bursts × (Grants × (Waits × History))))
 unfolding codes bytes
     sheet_print sheet body head head_of counted_rows counted_events event step_count number_between numbers_of read_number bytes_of list_at
     events_from event_count setup_of event_at next_event event_from event_of
@@ -266,7 +267,7 @@ unfolding codes bytes
     route_of rest_after next_time cycle_of is_late is_leaving ending_of clocked freed moved_on cycle_entry cycle_turn arbitration_time granted grant_turn leave_turn
     add_grant add_cycle add_release owner_plan act_plan ready_verdict plan_of step_of carry_of moved_slave moved_master slave_after master_after world_after run_from run_of
     cycle_fields store_place outranks wins_next reason_of why_of
-computed = (
+all_computed = (
   record {
     good = refl;
     read = refl;
@@ -361,5 +362,8 @@ computed = (
   ),
 )
 
+computed : Whole × (Lines × (Bursts × (Grants × History)))
+computed = (all_computed.0, (all_computed.1.0, (all_computed.1.1.0, (all_computed.1.1.1.0, all_computed.1.1.1.1.1))))
+
 pub history : History
-history = computed.1.1.1.1.1
+history = computed.1.1.1.1

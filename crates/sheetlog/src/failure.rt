@@ -47,9 +47,7 @@ impl fmt::Display for Failure {
                 f.write_str("sheetrun: standard input: a sheet of more than 65536 bytes")
             }
             Failure::NoRoom => f.write_str("sheetrun: a buffer of its own is too small"),
-            Failure::Usage => f.write_str(
-                "usage: sheetrun [--many | --why LEVEL | --many-why] <sheet >log",
-            ),
+            Failure::Usage => f.write_str("usage: sheetrun [--many] <sheet >log"),
         }
     }
 }

@@ -1,6 +1,5 @@
 use Rattle.act.specs.Cycle.{route_of}
 use Rattle.channel.specs.Slave.{slave_of, start_of}
-use borrow.Author.Rules.{rules}
 use mathlib.Core.Path.{sym, ◌∙◌}
 use Rattle.act.proofs.route_of.Goals as goal
 

@@ -1,6 +1,5 @@
 use Rattle.channel.specs.Line.{clear_marks}
-use borrow.Author.Rules.{rules}
-use mathlib.Core.Path.{refl, sym, ◌∙◌}
+use mathlib.Core.Path.{sym, ◌∙◌}
 use Rattle.channel.proofs.clear_marks.Goals as goal
 
 pub returns-then-line_active : goal.returns-then-line_active

@@ -1,10 +1,7 @@
-use Prim.Native.Nat.{◌-◌, ◌≤◌}
 use Rattle.basics.proofs.ScanLaws.{any_hit, any_more}
 use Rattle.basics.specs.Limits.{places}
 use Rattle.basics.specs.Scan.{any_below}
 use Rattle.channel.specs.Line.{drives, line_active}
-use borrow.Author.Rules.{rules}
-use mathlib.Core.Bool.{false}
 use mathlib.Core.Path.{◌≡◌, refl, sym}
 use native.Mathlib.Omega.{arith}
 use Rattle.channel.proofs.line_active.Goals as goal

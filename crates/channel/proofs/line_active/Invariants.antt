@@ -1,12 +1,9 @@
 use Prim.Native.Nat.{◌-◌, ◌≤◌}
-use Rattle.basics.proofs.ScanLaws.{any_hit, any_more}
 use Rattle.basics.specs.Limits.{places}
 use Rattle.basics.specs.Scan.{any_below}
-use Rattle.channel.specs.Line.{drives, line_active}
-use borrow.Author.Rules.{rules}
+use Rattle.channel.specs.Line.{drives}
 use mathlib.Core.Bool.{false}
-use mathlib.Core.Path.{◌≡◌, refl, sym}
-use native.Mathlib.Omega.{arith}
+use mathlib.Core.Path.{◌≡◌}
 use Rattle.channel.proofs.line_active.Given as goal
 
 abbrev pub invariant-loop-level : goal.invariant-loop-level

@@ -1,5 +1,4 @@
 use Rattle.channel.specs.Line.{set_asked}
-use borrow.Author.Rules.{rules}
 use Rattle.channel.proofs.set_asked.Goals as goal
 
 pub returns : goal.returns

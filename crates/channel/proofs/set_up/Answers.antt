@@ -1,5 +1,4 @@
 use Rattle.channel.specs.Channel.{set_up}
-use borrow.Author.Rules.{rules}
 use mathlib.Core.Path.{sym, ◌∙◌}
 use Rattle.channel.proofs.set_up.Goals as goal
 

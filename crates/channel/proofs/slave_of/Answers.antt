@@ -1,6 +1,5 @@
 use Rattle.channel.specs.Slave.{slave_of}
 use Rattle.frame.specs.Rows.{slave_or}
-use borrow.Author.Rules.{rules}
 use mathlib.Core.Path.{sym, ap, ◌∙◌}
 use Rattle.channel.proofs.slave_of.Goals as goal
 

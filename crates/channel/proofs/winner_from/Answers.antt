@@ -1,9 +1,7 @@
-use Prim.Native.Nat.{ℕ, ◌-◌}
 use Rattle.basics.proofs.ScanLaws.{first_hit, first_miss, first_none}
 use Rattle.basics.specs.Limits.{places, system_master}
-use Rattle.basics.specs.Scan.{first_from}
 use Rattle.channel.specs.Line.{waits, winner_from}
-use mathlib.Core.Path.{◌≡◌, refl, sym, ap, ◌∙◌}
+use mathlib.Core.Path.{refl, sym, ◌∙◌}
 use native.Mathlib.Omega.{arith}
 use Rattle.channel.proofs.winner_from.Goals as goal
 

@@ -1,10 +1,8 @@
-use Prim.Native.Nat.{ℕ, ◌-◌}
-use Rattle.basics.proofs.ScanLaws.{first_hit, first_miss, first_none}
+use Prim.Native.Nat.{◌-◌}
 use Rattle.basics.specs.Limits.{places, system_master}
 use Rattle.basics.specs.Scan.{first_from}
 use Rattle.channel.specs.Line.{waits, winner_from}
-use mathlib.Core.Path.{◌≡◌, refl, sym, ap, ◌∙◌}
-use native.Mathlib.Omega.{arith}
+use mathlib.Core.Path.{◌≡◌}
 use Rattle.channel.proofs.winner_from.Given as goal
 
 abbrev pub invariant-loop-level : goal.invariant-loop-level

@@ -1,6 +1,5 @@
 use borrow.Author.Tests.{lt-ltb, le-ltb}
 use Rattle.cycle.specs.Cycle.{cycle_count}
-use borrow.Author.Rules.{rules}
 use Rattle.cycle.proofs.cycle_count.Goals as goal
 
 pub returns-then-not-is_length-is_width : goal.returns-then-not-is_length-is_width

@@ -1,4 +1,3 @@
-use borrow.Author.Rules.{rules}
 use Rattle.cycle.specs.Cycle.{tabled_length}
 use Rattle.cycle.proofs.cycle_length.Goals as goal
 

@@ -1,7 +1,6 @@
 use native.Mathlib.Omega.{arith}
 use Rattle.cycle.proofs.Widths.{port_some}
 use Rattle.cycle.proofs.CycleTable.{tabled_rule}
-use borrow.Author.Rules.{rules}
 use Rattle.cycle.proofs.entry_of.Goals as goal
 
 pub overflow_mul-place : goal.overflow_mul-place

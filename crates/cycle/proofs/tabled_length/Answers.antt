@@ -1,6 +1,4 @@
-use mathlib.Core.Path.{sym, ◌∙◌}
 use native.Mathlib.Omega.{arith}
-use borrow.Author.Rules.{rules}
 use Rattle.cycle.specs.Cycle.{tabled_length}
 use Rattle.cycle.proofs.tabled_length.Goals as goal
 

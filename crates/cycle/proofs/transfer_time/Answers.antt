@@ -1,6 +1,4 @@
-use Rattle.basics.proofs.Product.{product_below}
 use Rattle.cycle.specs.Cycle.{transfer_time}
-use borrow.Author.Rules.{rules}
 use Rattle.cycle.proofs.transfer_time.Goals as goal
 
 pub returns : goal.returns

@@ -1,6 +1,5 @@
 use mathlib.Core.Path.{refl}
 use Rattle.frame.specs.Frame.{are_apart}
-use borrow.Author.Rules.{rules}
 use Rattle.frame.proofs.are_apart.Goals as goal
 
 pub returns : goal.returns

@@ -1,18 +1,9 @@
 use Prim.Native.Nat.{ℕ, ◌+◌, ◌-◌, ◌*◌, ◌≤◌}
-use Rattle.basics.proofs.ScanLaws.{all_more, all_miss}
 use Rattle.basics.specs.Limits.{rows_most}
 use Rattle.basics.specs.Scan.{all_below}
-use Rattle.frame.proofs.FrameLaws.{count_fits}
-use Rattle.frame.proofs.RowLaws.{rows_fit, rows_miss, before_more, slave_fits_at, slave_fits_is}
-use Rattle.frame.specs.declared.SlaveRows.{SlaveRows}
-use Rattle.frame.specs.declared.FramedStore.TheVariants.{Broken, Length}
-use Rattle.frame.specs.Find.{slave_store_length, store_if}
-use Rattle.frame.specs.Frame.{rows_present, slave_at, slaves_fit, is_row_count, slave_row_fits, are_apart, is_apart, lengths_before}
-use borrow.Author.Rules.{rules}
-use borrow.Author.Tests.{not-true, not-false}
-use mathlib.Core.Bool.{true, false, and-false}
-use mathlib.Core.Path.{◌≡◌, refl, sym, ap, ◌∙◌}
-use native.Mathlib.Omega.{arith}
+use Rattle.frame.specs.Frame.{slave_at, slave_row_fits, are_apart, lengths_before}
+use mathlib.Core.Bool.{true}
+use mathlib.Core.Path.{◌≡◌}
 use Rattle.frame.proofs.fitting_store.Given as goal
 
 abbrev pub invariant-loop-i : goal.invariant-loop-i

@@ -5,7 +5,6 @@ use Rattle.frame.specs.declared.Setup.{Setup}
 use Rattle.frame.specs.declared.FramedStore.TheVariants.{Broken}
 use Rattle.frame.specs.Find.{store_if, framed_store}
 use Rattle.frame.specs.Frame.{levels_fit, slaves_fit, is_master_length, is_framed}
-use borrow.Author.Rules.{rules}
 use Rattle.frame.proofs.framed_store.Goals as goal
 
 whole : (setup : Setup) → (levels_fit setup.levels && is_master_length setup.master) ≡ true

@@ -1,9 +1,7 @@
-use Prim.Native.Nat.{ℕ, ◌-◌, ◌≤◌}
 use Rattle.basics.proofs.ScanLaws.{all_more, all_miss}
 use Rattle.basics.specs.Scan.{all_below}
-use Rattle.frame.specs.Frame.{are_apart, is_apart, slave_at}
+use Rattle.frame.specs.Frame.{is_apart}
 use borrow.Author.Tests.{not-true, not-false}
-use mathlib.Core.Bool.{true}
 use mathlib.Core.Path.{◌≡◌, refl, sym, ◌∙◌}
 use native.Mathlib.Omega.{arith}
 use Rattle.frame.proofs.is_apart.Goals as goal

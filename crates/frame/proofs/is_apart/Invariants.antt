@@ -1,11 +1,8 @@
 use Prim.Native.Nat.{ℕ, ◌-◌, ◌≤◌}
-use Rattle.basics.proofs.ScanLaws.{all_more, all_miss}
 use Rattle.basics.specs.Scan.{all_below}
-use Rattle.frame.specs.Frame.{are_apart, is_apart, slave_at}
-use borrow.Author.Tests.{not-true, not-false}
+use Rattle.frame.specs.Frame.{are_apart, slave_at}
 use mathlib.Core.Bool.{true}
-use mathlib.Core.Path.{◌≡◌, refl, sym, ◌∙◌}
-use native.Mathlib.Omega.{arith}
+use mathlib.Core.Path.{◌≡◌}
 use Rattle.frame.proofs.is_apart.Given as goal
 
 abbrev pub invariant-loop-j : goal.invariant-loop-j

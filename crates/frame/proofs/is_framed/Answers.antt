@@ -1,6 +1,5 @@
 use mathlib.Core.Path.{sym, ◌∙◌}
 use Rattle.frame.proofs.SlaveLaws.{store_broken, store_length}
-use borrow.Author.Rules.{rules}
 use Rattle.frame.proofs.is_framed.Goals as goal
 
 pub returns-in-Broken : goal.returns-in-Broken

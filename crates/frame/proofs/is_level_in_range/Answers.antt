@@ -1,5 +1,4 @@
 use Rattle.frame.specs.Frame.{is_level_in_range}
-use borrow.Author.Rules.{rules}
 use Rattle.frame.proofs.is_level_in_range.Goals as goal
 
 pub returns : goal.returns

@@ -1,5 +1,4 @@
 use Rattle.frame.specs.Rows.{is_present, is_level}
-use borrow.Author.Rules.{rules}
 use mathlib.Core.Path.{sym, ap, ◌∙◌}
 use Rattle.frame.proofs.is_present.Goals as goal
 

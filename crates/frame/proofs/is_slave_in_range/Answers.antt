@@ -1,5 +1,4 @@
 use Rattle.frame.specs.Frame.{is_slave_in_range, is_placed}
-use borrow.Author.Rules.{rules}
 use Rattle.frame.proofs.is_slave_in_range.Goals as goal
 
 pub returns : goal.returns

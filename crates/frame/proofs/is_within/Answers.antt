@@ -1,7 +1,6 @@
 use Prim.Native.Nat.{◌+◌}
 use Rattle.frame.proofs.Sums.{sum_within, sum_beyond}
 use Rattle.frame.specs.Allowance.{is_within}
-use borrow.Author.Rules.{rules}
 use mathlib.Core.Path.{sym}
 use native.Mathlib.Omega.{arith}
 use Rattle.frame.proofs.is_within.Goals as goal

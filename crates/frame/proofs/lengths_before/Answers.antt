@@ -1,8 +1,6 @@
-use Prim.Native.Nat.{◌-◌, ◌*◌, ◌≤◌}
 use Rattle.frame.proofs.RowLaws.{before_more}
 use Rattle.frame.specs.Frame.{lengths_before}
-use borrow.Author.Rules.{rules}
-use mathlib.Core.Path.{◌≡◌, refl}
+use mathlib.Core.Path.{refl}
 use native.Mathlib.Omega.{arith}
 use Rattle.frame.proofs.lengths_before.Goals as goal
 

@@ -1,9 +1,6 @@
 use Prim.Native.Nat.{◌-◌, ◌*◌, ◌≤◌}
-use Rattle.frame.proofs.RowLaws.{before_more}
 use Rattle.frame.specs.Frame.{lengths_before}
-use borrow.Author.Rules.{rules}
-use mathlib.Core.Path.{◌≡◌, refl}
-use native.Mathlib.Omega.{arith}
+use mathlib.Core.Path.{◌≡◌}
 use Rattle.frame.proofs.lengths_before.Given as goal
 
 abbrev pub invariant-loop-j : goal.invariant-loop-j

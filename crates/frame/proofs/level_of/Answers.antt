@@ -1,5 +1,4 @@
 use Rattle.frame.specs.Rows.{level_of, level_or}
-use borrow.Author.Rules.{rules}
 use mathlib.Core.Path.{sym, ap, ◌∙◌}
 use Rattle.frame.proofs.level_of.Goals as goal
 

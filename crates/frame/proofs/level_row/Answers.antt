@@ -1,13 +1,9 @@
-use Prim.Native.Nat.{ℕ, ◌-◌, ◌≤◌}
 use Rattle.basics.proofs.ScanLaws.{first_miss}
-use Rattle.basics.specs.Limits.{rows_most, no_row}
-use Rattle.basics.specs.Scan.{first_from}
+use Rattle.basics.specs.Limits.{no_row}
 use Rattle.frame.proofs.RowLaws.{level_hit, level_none}
 use Rattle.frame.specs.Find.{level_index}
-use Rattle.frame.specs.Frame.{level_at}
 use borrow.Author.Tests.{eq-eqb, ne_eqb}
-use lib.Dec.{eqb}
-use mathlib.Core.Path.{◌≡◌, sym, ◌∙◌}
+use mathlib.Core.Path.{sym, ◌∙◌}
 use native.Mathlib.Nat.{sub-zero}
 use native.Mathlib.Omega.{arith}
 use Rattle.frame.proofs.level_row.Goals as goal

@@ -1,7 +1,6 @@
 use Rattle.basics.specs.Limits.{rows_most}
 use Rattle.basics.proofs.Arrays.{length_mapped}
 use Rattle.frame.proofs.RowLaws.{no_level_fits, level_fits_is}
-use borrow.Author.Rules.{rules}
 use lib.ListN.{length}
 use mathlib.Core.Path.{◌≡◌, sym}
 use native.Mathlib.Omega.{arith}

@@ -1,12 +1,10 @@
-use Prim.Native.Nat.{◌+◌, ◌-◌, ◌≤◌}
+use Prim.Native.Nat.{◌+◌, ◌-◌}
 use Rattle.basics.proofs.ScanLaws.{all_more}
-use Rattle.basics.specs.Limits.{rows_most}
 use Rattle.basics.specs.Scan.{all_below}
 use Rattle.frame.proofs.FrameLaws.{count_fits}
 use Rattle.frame.proofs.RowLaws.{rows_fit, rows_miss, level_fits_is}
-use Rattle.frame.specs.Frame.{levels_fit, is_row_count, level_row_fits, level_at}
+use Rattle.frame.specs.Frame.{levels_fit, is_row_count, level_row_fits}
 use borrow.Author.Tests.{not-true, not-false}
-use mathlib.Core.Bool.{true}
 use mathlib.Core.Path.{◌≡◌, refl, sym, ◌∙◌}
 use native.Mathlib.Omega.{arith}
 use Rattle.frame.proofs.levels_fit.Goals as goal

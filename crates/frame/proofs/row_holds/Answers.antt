@@ -1,6 +1,5 @@
 use mathlib.Core.Path.{refl}
 use Rattle.frame.specs.Find.{row_holds}
-use borrow.Author.Rules.{rules}
 use Rattle.frame.proofs.row_holds.Goals as goal
 
 pub returns : goal.returns

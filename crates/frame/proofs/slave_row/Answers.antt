@@ -1,12 +1,9 @@
-use Prim.Native.Nat.{ℕ, ◌-◌, ◌*◌, ◌≤◌}
 use Rattle.basics.proofs.ScanLaws.{first_miss}
-use Rattle.basics.specs.Limits.{rows_most, no_row}
-use Rattle.basics.specs.Scan.{first_from}
+use Rattle.basics.specs.Limits.{no_row}
 use Rattle.frame.proofs.RowLaws.{slave_hit, slave_none, before_more}
-use Rattle.frame.specs.Find.{slave_index, row_holds}
-use Rattle.frame.specs.Frame.{slave_at, lengths_before}
-use borrow.Author.Rules.{rules}
-use mathlib.Core.Path.{◌≡◌, refl, sym, ◌∙◌}
+use Rattle.frame.specs.Find.{slave_index}
+use Rattle.frame.specs.Frame.{lengths_before}
+use mathlib.Core.Path.{refl, sym, ◌∙◌}
 use native.Mathlib.Nat.{sub-zero}
 use native.Mathlib.Omega.{arith}
 use Rattle.frame.proofs.slave_row.Goals as goal

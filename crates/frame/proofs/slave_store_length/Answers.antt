@@ -1,5 +1,4 @@
 use Rattle.frame.specs.Find.{slave_store_length}
-use borrow.Author.Rules.{rules}
 use Rattle.frame.proofs.slave_store_length.Goals as goal
 
 pub returns : goal.returns

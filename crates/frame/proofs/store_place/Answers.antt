@@ -1,9 +1,7 @@
 use Rattle.frame.proofs.FoundLaws.{slave_found_lem}
 use Rattle.frame.specs.Find.{store_place, store_place_in}
 use Rattle.frame.specs.declared.FoundSlave.{FoundSlave}
-use borrow.Author.Rules.{rules}
 use mathlib.Core.Path.{sym, ap, ◌∙◌}
-use native.Mathlib.Omega.{arith}
 use Rattle.frame.proofs.store_place.Goals as goal
 
 pub overflow_sub-result : goal.overflow_sub-result

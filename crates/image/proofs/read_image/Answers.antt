@@ -1,4 +1,3 @@
-use borrow.Author.Rules.{rules}
 use Rattle.image.proofs.ImageLaws.{image_none, image_short, image_on}
 use mathlib.Core.Path.{◌∙◌}
 use Rattle.image.proofs.read_image.Goals as goal

@@ -1,9 +1,6 @@
-use borrow.Author.Rules.{rules}
-use mathlib.Core.Path.{sym}
 use native.Mathlib.Omega.{arith}
 use borrow.Author.Tests.{le-leb, lt-leb}
 use lib.ListN.{length}
-use lib.Seq.{length-take-le}
 use Rattle.image.specs.Image.{read_setup}
 use Rattle.image.proofs.read_setup.Goals as goal
 

@@ -1,4 +1,3 @@
-use borrow.Author.Rules.{rules}
 use mathlib.Core.Path.{refl, sym, ◌∙◌}
 use Rattle.basics.proofs.Tests.{and_left}
 use Rattle.frame.proofs.FrameLaws.{framed_levels, framed_slaves, level_count_lem}

@@ -1,4 +1,3 @@
-use borrow.Author.Rules.{rules}
 use mathlib.Core.Path.{ap, ◌∙◌}
 use Rattle.lobrinkas.specs.Calls.{Answered}
 use Rattle.lobrinkas.proofs.SetUpLaws.{set_up_refused, set_up_done}

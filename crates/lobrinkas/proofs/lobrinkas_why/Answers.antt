@@ -1,4 +1,3 @@
-use borrow.Author.Rules.{rules}
 use mathlib.Core.Path.{ap, ◌∙◌}
 use Rattle.lobrinkas.specs.Answers.{told_by}
 use Rattle.lobrinkas.proofs.CallLaws.{why_malformed, why_told}

@@ -1,5 +1,4 @@
 use Rattle.act.specs.Entry.{cycle_fields}
-use borrow.Author.Rules.{rules}
 use Rattle.logline.proofs.put_cycle.Goals as goal
 
 pub returns : goal.returns

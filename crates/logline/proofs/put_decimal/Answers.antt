@@ -1,7 +1,4 @@
-use borrow.Author.Rules.{rules}
-use borrow.Author.Tests.{leb-true, not-true, not-false}
-use Prim.Native.Nat.{◌+◌}
-use lib.ListN.{length}
+use borrow.Author.Tests.{not-true, not-false}
 use mathlib.Core.Path.{sym, ◌∙◌}
 use Rattle.logline.specs.Text.{put_decimal, put_decimal_after}
 use Rattle.logline.proofs.put_decimal.Goals as goal

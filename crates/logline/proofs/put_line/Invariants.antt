@@ -1,17 +1,9 @@
-use Prim.Native.Nat.{ℕ, ◌+◌, ◌-◌, ◌*◌, ◌≤◌}
-use Rattle.logline.proofs.DigitLaws.{digits_most}
-use Rattle.logline.proofs.TextLaws.{room_is, fields_more, fields_none, write_more}
-use Rattle.logline.specs.Text.{digits, field, fields_from, place_after, out_after}
-use borrow.Author.Rules.{rules}
-use borrow.Author.Tests.{not-true, not-false}
-use lib.ListN.{get_or}
-use lib.ListN.{length, set, length-set, length-append}
+use Prim.Native.Nat.{◌+◌, ◌-◌, ◌*◌, ◌≤◌}
+use Rattle.logline.specs.Text.{fields_from}
+use lib.ListN.{length}
 use lib.Seq.{sets}
-use mathlib.Core.List.{List, [], ◌∷◌, ◌++◌}
-use mathlib.Core.Path.{◌≡◌, refl, sym, ap, ◌∙◌}
-use native.Mathlib.Nat.{sub-zero}
-use native.Mathlib.Numerals.{add-one}
-use native.Mathlib.Omega.{arith}
+use mathlib.Core.List.{[], ◌∷◌, ◌++◌}
+use mathlib.Core.Path.{◌≡◌}
 use Rattle.logline.proofs.put_line.Given as goal
 
 abbrev pub invariant-loop-i : goal.invariant-loop-i

@@ -1,9 +1,6 @@
-use borrow.Author.Rules.{rules}
 use borrow.Author.Tests.{le-leb}
-use lib.Dec.{leb}
-use mathlib.Core.Path.{sym, ap}
+use mathlib.Core.Path.{sym}
 use native.Mathlib.Omega.{arith}
-use Prim.Native.Nat.{ℕ}
 use Rattle.number.specs.Number.{number_size}
 use Rattle.number.proofs.Laws.{bytes_most}
 use Rattle.number.proofs.has_room.Goals as goal

@@ -1,20 +1,6 @@
-use Prim.Native.Nat.{◌+◌, ◌-◌, ◌≤◌}
 use native.Mathlib.Omega.{arith}
 use borrow.Author.Tests.{eq-eqb, ne_eqb}
-use lib.ListN.{length, drop}
-use Rattle.number.specs.Number.{groups, below}
-use Rattle.number.proofs.LoopLaws.{
-  Turn,
-  first_turn,
-  no_turn,
-  fifth_turn,
-  fifth_fits,
-  last_turn,
-  last_fits,
-  next_turn,
-  next_fits,
-  weight_fits,
-}
+use Rattle.number.proofs.LoopLaws.{first_turn, no_turn, fifth_turn, fifth_fits, last_turn, last_fits, next_turn, next_fits, weight_fits}
 use Rattle.number.proofs.more_groups.Goals as goal
 
 pub loop-at-init : goal.loop-at-init

@@ -1,20 +1,7 @@
 use Prim.Native.Nat.{◌+◌, ◌-◌, ◌≤◌}
-use native.Mathlib.Omega.{arith}
-use borrow.Author.Tests.{eq-eqb, ne_eqb}
 use lib.ListN.{length, drop}
 use Rattle.number.specs.Number.{groups, below}
-use Rattle.number.proofs.LoopLaws.{
-  Turn,
-  first_turn,
-  no_turn,
-  fifth_turn,
-  fifth_fits,
-  last_turn,
-  last_fits,
-  next_turn,
-  next_fits,
-  weight_fits,
-}
+use Rattle.number.proofs.LoopLaws.{Turn}
 use Rattle.number.proofs.more_groups.Given as goal
 
 abbrev pub invariant-loop-at : goal.invariant-loop-at

@@ -1,12 +1,12 @@
 use Prim.Native.Nat.{ℕ, zero, suc, ◌+◌, ◌/◌, ◌%◌, ◌≤◌, ◌<◌}
-use mathlib.Core.Path.{◌≡◌, refl, sym, ap, ◌∙◌}
+use mathlib.Core.Path.{◌≡◌, refl}
 use mathlib.Core.List.{List}
 use native.Mathlib.Omega.{arith}
 use native.Mathlib.Numerals.{add-one}
-use lib.ListN.{length, set, length-set}
+use lib.ListN.{length, set}
 use lib.Seq.{sets}
 use Rattle.number.specs.Number.{shortest, top, bytes_of}
-use Rattle.number.proofs.Laws.{shortest_last, shortest_more, size_more, size_some}
+use Rattle.number.proofs.Laws.{shortest_more, size_more}
 use Rattle.number.proofs.put_number.Goals as goal
 
 -- one group is written: what is left to write is the rest's

@@ -1,9 +1,6 @@
-use Prim.Native.Nat.{◌+◌, ◌-◌, ◌*◌, ◌≤◌}
 use Rattle.number.proofs.Laws.{bytes_most}
-use Rattle.numbers.proofs.Laws.{bytes_none, size_on}
-use Rattle.numbers.specs.Numbers.{all_bytes}
-use lib.ListN.{length, drop, get_or}
-use mathlib.Core.Path.{◌≡◌, ap}
+use Rattle.numbers.proofs.Laws.{size_on}
+use lib.ListN.{get_or}
 use native.Mathlib.Omega.{arith}
 use Rattle.numbers.proofs.bytes_size.Goals as goal
 

@@ -1,10 +1,7 @@
 use Prim.Native.Nat.{◌+◌, ◌-◌, ◌*◌, ◌≤◌}
-use Rattle.number.proofs.Laws.{bytes_most}
-use Rattle.numbers.proofs.Laws.{bytes_none, size_on}
 use Rattle.numbers.specs.Numbers.{all_bytes}
-use lib.ListN.{length, drop, get_or}
-use mathlib.Core.Path.{◌≡◌, ap}
-use native.Mathlib.Omega.{arith}
+use lib.ListN.{length, drop}
+use mathlib.Core.Path.{◌≡◌}
 use Rattle.numbers.proofs.bytes_size.Given as goal
 
 abbrev pub invariant-loop-i : goal.invariant-loop-i

@@ -1,7 +1,6 @@
 use Rattle.number.proofs.Laws.{whole, not_whole}
 use Rattle.number.specs.declared.NumberWritten.TheVariants.{Past}
 use Rattle.numbers.specs.Numbers.{numbers_of, copy_numbers, copy_numbers_after}
-use borrow.Author.Rules.{rules}
 use mathlib.Core.Path.{sym, ap, ◌∙◌}
 use native.Mathlib.Nat.{zero-add}
 use native.Mathlib.Omega.{arith}

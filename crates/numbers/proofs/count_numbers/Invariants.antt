@@ -1,13 +1,8 @@
-use Prim.Native.Nat.{suc, ◌+◌, ◌-◌, ◌≤◌}
-use Rattle.number.proofs.Laws.{read_within, read_end}
+use Prim.Native.Nat.{◌+◌, ◌-◌, ◌≤◌}
 use Rattle.number.specs.Number.{read_number}
-use Rattle.numbers.proofs.Laws.{numbers_on, numbers_end}
 use Rattle.numbers.specs.Numbers.{numbers, numbers_of}
-use borrow.Author.Rules.{rules}
 use lib.ListN.{length}
-use mathlib.Core.Path.{◌≡◌, sym, ap, ◌∙◌}
-use native.Mathlib.Nat.{sub-zero, zero-add}
-use native.Mathlib.Omega.{arith}
+use mathlib.Core.Path.{◌≡◌}
 use Rattle.numbers.proofs.count_numbers.Given as goal
 
 abbrev pub invariant-loop-at : goal.invariant-loop-at

@@ -1,9 +1,7 @@
 use borrow.Author.Tests.{le-leb}
-use lib.Dec.{leb}
 use lib.ListN.{length}
-use mathlib.Core.Path.{sym, ap}
+use mathlib.Core.Path.{sym}
 use native.Mathlib.Omega.{arith}
-use Prim.Native.Nat.{ℕ}
 use Rattle.numbers.proofs.Laws.{sizes_most}
 use Rattle.numbers.specs.Numbers.{all_bytes}
 use Rattle.numbers.proofs.have_room.Goals as goal

@@ -1,5 +1,4 @@
 use Rattle.numbers.specs.Numbers.{list_at}
-use borrow.Author.Rules.{rules}
 use borrow.Author.Tests.{lt-ltb, le-ltb}
 use Rattle.numbers.proofs.number_at.Goals as goal
 

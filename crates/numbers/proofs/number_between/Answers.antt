@@ -1,5 +1,4 @@
 use Rattle.numbers.specs.Numbers.{number_between}
-use borrow.Author.Rules.{rules}
 use mathlib.Core.Path.{sym, ◌∙◌}
 use Rattle.numbers.proofs.number_between.Goals as goal
 

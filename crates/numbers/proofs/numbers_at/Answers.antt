@@ -1,7 +1,6 @@
 use Rattle.basics.specs.Limits.{numbers_most}
 use Rattle.numbers.specs.Numbers.{number_at, taken, numbers_at}
 use Prim.Native.Nat.{ℕ, min}
-use borrow.Author.Rules.{rules}
 use mathlib.Core.Path.{◌≡◌, ap, ◌∙◌}
 use native.Mathlib.Omega.{arith}
 use Rattle.numbers.proofs.numbers_at.Goals as goal

@@ -1,14 +1,9 @@
-use Prim.Native.Nat.{suc, ◌+◌, ◌-◌, ◌≤◌}
-use Rattle.number.proofs.Laws.{read_within, read_end}
+use Prim.Native.Nat.{◌+◌, ◌-◌, ◌≤◌}
 use Rattle.number.specs.Number.{read_number}
-use Rattle.numbers.proofs.Laws.{numbers_on, numbers_end, stored_on}
 use Rattle.numbers.specs.Numbers.{numbers, numbers_of}
-use borrow.Author.Rules.{rules}
-use lib.ListN.{length, length-set}
+use lib.ListN.{length}
 use lib.Seq.{sets}
-use mathlib.Core.Path.{◌≡◌, refl, sym, ap, ◌∙◌}
-use native.Mathlib.Nat.{sub-zero, zero-add}
-use native.Mathlib.Omega.{arith}
+use mathlib.Core.Path.{◌≡◌}
 use Rattle.numbers.proofs.put_copy.Given as goal
 
 abbrev pub invariant-loop-at : goal.invariant-loop-at

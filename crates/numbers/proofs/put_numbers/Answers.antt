@@ -1,11 +1,8 @@
-use Prim.Native.Nat.{◌+◌, ◌-◌, ◌≤◌, ◌<◌}
+use Prim.Native.Nat.{◌<◌}
 use Rattle.number.proofs.Laws.{written}
-use Rattle.numbers.proofs.Laws.{bytes_none, size_on, written_on, past_is, no_room}
-use Rattle.numbers.specs.Numbers.{all_bytes}
-use borrow.Author.Rules.{rules}
-use lib.ListN.{length, drop, get_or}
-use lib.Seq.{sets}
-use mathlib.Core.Path.{◌≡◌, refl, sym, ap, ◌∙◌}
+use Rattle.numbers.proofs.Laws.{size_on, written_on, past_is, no_room}
+use lib.ListN.{length, get_or}
+use mathlib.Core.Path.{sym, ◌∙◌}
 use native.Mathlib.Omega.{arith}
 use Rattle.numbers.proofs.put_numbers.Goals as goal
 

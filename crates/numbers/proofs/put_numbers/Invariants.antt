@@ -1,15 +1,8 @@
-use Prim.Native.Nat.{◌+◌, ◌-◌, ◌≤◌, ◌<◌}
-use Rattle.number.proofs.Laws.{written}
-use Rattle.numbers.proofs.Laws.{bytes_none, size_on, written_on, past_is, no_room}
+use Prim.Native.Nat.{◌+◌, ◌-◌, ◌≤◌}
 use Rattle.numbers.specs.Numbers.{all_bytes}
-use borrow.Author.Rules.{rules}
-use lib.ListN.{length, drop, get_or}
+use lib.ListN.{length, drop}
 use lib.Seq.{sets}
-use mathlib.Core.Path.{◌≡◌, refl, sym, ap, ◌∙◌}
-use native.Mathlib.Omega.{arith}
-use Rattle.numbers.proofs.put_numbers.Reads as reads
-use Rattle.numbers.proofs.put_numbers.Lts as lts
-use Rattle.number.proofs.write_number.Reads as write-number-reads
+use mathlib.Core.Path.{◌≡◌}
 use Rattle.numbers.proofs.put_numbers.Given as goal
 
 abbrev pub invariant-loop-i : goal.invariant-loop-i

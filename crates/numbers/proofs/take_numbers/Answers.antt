@@ -1,13 +1,8 @@
-use Rattle.basics.specs.Limits.{numbers_most}
-use Prim.Native.Nat.{suc, ◌+◌, ◌-◌, ◌≤◌}
-use Rattle.numbers.proofs.Laws.{passed_on, passed_fault, stored_on, numbers_end, taken_is}
-use Rattle.numbers.specs.Numbers.{passed, numbers}
-use Rattle.numbers.specs.Numbers.{number_at, padded}
-use borrow.Author.Rules.{rules}
-use lib.ListN.{length, length-set}
-use lib.Seq.{sets}
-use mathlib.Core.Path.{◌≡◌, refl, sym, ap, ◌∙◌}
-use native.Mathlib.Nat.{sub-zero}
+use Prim.Native.Nat.{suc, ◌+◌, ◌-◌}
+use Rattle.numbers.proofs.Laws.{passed_on, stored_on}
+use Rattle.numbers.specs.Numbers.{number_at}
+use lib.ListN.{length-set}
+use mathlib.Core.Path.{◌≡◌, sym, ◌∙◌}
 use native.Mathlib.Omega.{arith}
 use Rattle.numbers.proofs.take_numbers.Goals as goal
 

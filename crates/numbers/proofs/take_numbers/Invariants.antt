@@ -1,14 +1,10 @@
 use Rattle.basics.specs.Limits.{numbers_most}
-use Prim.Native.Nat.{suc, ◌+◌, ◌-◌, ◌≤◌}
-use Rattle.numbers.proofs.Laws.{passed_on, passed_fault, stored_on, numbers_end, taken_is}
+use Prim.Native.Nat.{◌-◌, ◌≤◌}
 use Rattle.numbers.specs.Numbers.{passed, numbers}
 use Rattle.numbers.specs.Numbers.{number_at, padded}
-use borrow.Author.Rules.{rules}
-use lib.ListN.{length, length-set}
+use lib.ListN.{length}
 use lib.Seq.{sets}
-use mathlib.Core.Path.{◌≡◌, refl, sym, ap, ◌∙◌}
-use native.Mathlib.Nat.{sub-zero}
-use native.Mathlib.Omega.{arith}
+use mathlib.Core.Path.{◌≡◌}
 use Rattle.numbers.proofs.take_numbers.Given as goal
 
 abbrev pub invariant-loop-i : goal.invariant-loop-i

@@ -2,7 +2,6 @@ use Prim.Native.Nat.{◌-◌}
 use Rattle.number.proofs.Laws.{whole, not_whole}
 use Rattle.number.specs.declared.NumberWritten.TheVariants.{Past}
 use Rattle.numbers.specs.Numbers.{all_bytes, write_numbers, write_numbers_after}
-use borrow.Author.Rules.{rules}
 use borrow.Author.Tests.{leb-true, leb-false}
 use lib.ListN.{length}
 use mathlib.Core.Path.{sym, ap, ◌∙◌}

@@ -1,5 +1,4 @@
 use Rattle.post.specs.Post.{posted}
-use borrow.Author.Rules.{rules}
 use Rattle.post.proofs.accepted.Goals as goal
 
 pub returns : goal.returns

@@ -1,5 +1,4 @@
 use Rattle.post.specs.Post.{post_of}
-use borrow.Author.Rules.{rules}
 use Rattle.post.proofs.post.Goals as goal
 
 pub returns-then-is_accepted : goal.returns-then-is_accepted

@@ -1,6 +1,5 @@
 use Rattle.post.specs.Post.{post_verdict}
 use Rattle.sound.proofs.StoreLaws.{store_nine, store_told}
-use borrow.Author.Rules.{rules}
 use mathlib.Core.Path.{sym, ◌∙◌}
 use Rattle.post.proofs.post_verdict.Goals as goal
 

@@ -2,7 +2,6 @@ use Rattle.basics.specs.Limits.{rows_most}
 use Rattle.numbers.specs.Numbers.{number_at}
 use Rattle.numbers.proofs.Laws.{at_most}
 use Rattle.sheet.proofs.Laws.{counted_fault, counted_on}
-use borrow.Author.Rules.{rules}
 use mathlib.Core.Path.{◌∙◌}
 use Rattle.sheet.proofs.counted_rows.Goals as goal
 

@@ -1,5 +1,4 @@
 use Rattle.sheet.specs.Sheet.{head_of}
-use borrow.Author.Rules.{rules}
 use Rattle.sheet.proofs.head_of.Goals as goal
 
 pub returns : goal.returns

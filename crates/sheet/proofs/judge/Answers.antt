@@ -1,5 +1,4 @@
 use Rattle.sheet.specs.Sheet.{sheet}
-use borrow.Author.Rules.{rules}
 use mathlib.Core.Path.{sym, ◌∙◌}
 use Rattle.sheet.proofs.judge.Goals as goal
 

@@ -1,5 +1,4 @@
 use Rattle.sheet.specs.Sheet.{counted_events}
-use borrow.Author.Rules.{rules}
 use mathlib.Core.Path.{sym, ◌∙◌}
 use Rattle.sheet.proofs.judge_counted_events.Goals as goal
 

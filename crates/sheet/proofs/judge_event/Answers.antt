@@ -1,7 +1,6 @@
 use Rattle.sheet.specs.Sheet.{event}
 use Rattle.numbers.specs.Numbers.{numbers_at}
 use Rattle.numbers.specs.declared.Taken.{Taken}
-use borrow.Author.Rules.{rules}
 use borrow.Author.Tests.{eq-eqb, ne_eqb}
 use mathlib.Core.Path.{sym, ap, ◌∙◌}
 use Rattle.sheet.proofs.judge_event.Goals as goal

@@ -1,10 +1,6 @@
-use Prim.Native.Nat.{suc, ◌-◌}
-use Rattle.sheet.proofs.Laws.{events_on, events_fault}
 use Rattle.sheet.specs.Sheet.{events}
 use Rattle.numbers.specs.Numbers.{number_at}
-use borrow.Author.Rules.{rules}
-use mathlib.Core.Path.{◌≡◌, refl, sym, ◌∙◌}
-use native.Mathlib.Omega.{arith}
+use mathlib.Core.Path.{◌≡◌}
 use Rattle.sheet.proofs.judge_events.Given as goal
 
 abbrev pub invariant-loop-left : goal.invariant-loop-left

@@ -1,5 +1,4 @@
 use Rattle.sheet.specs.Sheet.{step_count}
-use borrow.Author.Rules.{rules}
 use mathlib.Core.Path.{sym, ◌∙◌}
 use Rattle.sheet.proofs.judge_step_count.Goals as goal
 

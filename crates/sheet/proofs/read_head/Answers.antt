@@ -3,7 +3,6 @@ use Rattle.frame.specs.declared.Setup.{Setup}
 use Rattle.numbers.specs.Numbers.{number_at}
 use Rattle.sheet.specs.Sheet.{counted_rows}
 use Rattle.sheet.proofs.Laws.{head_fault, head_on}
-use borrow.Author.Rules.{rules}
 use mathlib.Core.Path.{ap, ◌∙◌}
 use Rattle.sheet.proofs.read_head.Goals as goal
 

@@ -1,14 +1,11 @@
-use Prim.Native.Nat.{ℕ, suc, ◌+◌, ◌-◌, ◌≤◌}
+use Prim.Native.Nat.{ℕ, suc, ◌+◌, ◌-◌}
 use Rattle.refusal.specs.declared.Refusal.{Refusal}
 use Rattle.numbers.specs.declared.Part.TheVariants.{Fault}
-use Rattle.frame.specs.Kind.{row_size}
 use Rattle.numbers.specs.Numbers.{number_at, numbers_at}
 use Rattle.sheet.proofs.Laws.{rows_on, rows_not, rows_fault, row_part, row_put}
-use Rattle.sheet.specs.Sheet.{rows_read, rows_from}
-use borrow.Author.Rules.{rules}
+use Rattle.sheet.specs.Sheet.{rows_read}
 use borrow.Author.Tests.{not-true, not-false}
 use mathlib.Core.Path.{◌≡◌, sym, ap, ◌∙◌}
-use native.Mathlib.Nat.{sub-zero}
 use native.Mathlib.Omega.{arith}
 use Rattle.sheet.proofs.read_rows.Goals as goal
 

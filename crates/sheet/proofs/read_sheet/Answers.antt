@@ -2,7 +2,6 @@ use Rattle.number.specs.Number.{read_number}
 use Rattle.numbers.specs.Numbers.{numbers_of, copy_numbers, copy_numbers_after}
 use Rattle.sheet.proofs.Answers.{answer_fault, answer_done, answer_short}
 use Rattle.sheet.specs.Sheet.{sheet, read_sheet, read_sheet_after}
-use borrow.Author.Rules.{rules}
 use lib.ListN.{length}
 use mathlib.Core.Path.{sym, ◌∙◌}
 use Rattle.sheet.proofs.read_sheet.Goals as goal

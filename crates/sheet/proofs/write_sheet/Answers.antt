@@ -1,7 +1,6 @@
 use Rattle.numbers.specs.Numbers.{list_at, all_bytes, write_numbers, write_numbers_after}
 use Rattle.sheet.proofs.Answers.{answer_fault, answer_done, answer_short}
 use Rattle.sheet.specs.Sheet.{sheet, write_sheet, write_sheet_after}
-use borrow.Author.Rules.{rules}
 use lib.ListN.{length}
 use mathlib.Core.Path.{sym, ◌∙◌}
 use Rattle.sheet.proofs.write_sheet.Goals as goal

@@ -1,9 +1,7 @@
-use Prim.Native.Nat.{◌-◌, ◌<◌}
-use lib.ListN.{length, drop}
-use mathlib.Core.Path.{◌≡◌, refl, sym, ◌∙◌}
+use mathlib.Core.Path.{sym, ◌∙◌}
 use native.Mathlib.Omega.{arith}
-use Rattle.sheethost.specs.Host.{digest_from, digest_of}
-use Rattle.sheethost.proofs.StoreLaws.{digest_more, digest_whole}
+use Rattle.sheethost.specs.Host.{digest_of}
+use Rattle.sheethost.proofs.StoreLaws.{digest_whole}
 use Rattle.sheethost.proofs.digest.Goals as goal
 
 pub returns : goal.returns

@@ -1,9 +1,7 @@
 use Prim.Native.Nat.{◌-◌, ◌<◌}
 use lib.ListN.{length, drop}
-use mathlib.Core.Path.{◌≡◌, refl, sym, ◌∙◌}
-use native.Mathlib.Omega.{arith}
-use Rattle.sheethost.specs.Host.{digest_from, digest_of}
-use Rattle.sheethost.proofs.StoreLaws.{digest_more, digest_whole}
+use mathlib.Core.Path.{◌≡◌}
+use Rattle.sheethost.specs.Host.{digest_from}
 use Rattle.sheethost.proofs.digest.Given as goal
 
 abbrev pub invariant-loop-i : goal.invariant-loop-i

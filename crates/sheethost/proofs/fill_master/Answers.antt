@@ -1,9 +1,6 @@
-use Prim.Native.Nat.{◌-◌, ◌≤◌}
-use lib.ListN.{length, length-set, take}
-use mathlib.Core.Path.{◌≡◌, refl}
+use lib.ListN.{length-set}
 use native.Mathlib.Omega.{arith}
-use Rattle.sheethost.specs.Host.{master_store}
-use Rattle.sheethost.proofs.StoreLaws.{master_more, all_filled}
+use Rattle.sheethost.proofs.StoreLaws.{master_more}
 use Rattle.sheethost.proofs.fill_master.Goals as goal
 
 pub loop-i-preserved : goal.loop-i-preserved

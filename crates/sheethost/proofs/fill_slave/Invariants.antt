@@ -1,9 +1,7 @@
 use Prim.Native.Nat.{◌-◌, ◌≤◌}
-use lib.ListN.{length, length-set, take}
-use mathlib.Core.Path.{◌≡◌, refl}
-use native.Mathlib.Omega.{arith}
+use lib.ListN.{length, take}
+use mathlib.Core.Path.{◌≡◌}
 use Rattle.sheethost.specs.Host.{slave_store}
-use Rattle.sheethost.proofs.StoreLaws.{slave_more, all_filled}
 use Rattle.sheethost.proofs.fill_slave.Given as goal
 
 abbrev pub invariant-loop-i : goal.invariant-loop-i

@@ -1,6 +1,5 @@
 use Rattle.sheetlist.proofs.HeldLaws.{event_none}
 use Rattle.sheetlist.specs.Held.{event_at}
-use borrow.Author.Rules.{rules}
 use borrow.Author.Tests.{eq-eqb, ne_eqb}
 use Rattle.sheetlist.proofs.event_at.Goals as goal
 

@@ -1,5 +1,4 @@
 use Rattle.sheetlist.specs.Held.{event_count}
-use borrow.Author.Rules.{rules}
 use Rattle.sheetlist.proofs.event_count.Goals as goal
 
 pub returns : goal.returns

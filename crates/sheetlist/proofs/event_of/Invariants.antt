@@ -1,8 +1,6 @@
 use Prim.Native.Nat.{◌-◌, ◌≤◌}
-use Rattle.sheetlist.specs.Held.{event_from, event_of}
+use Rattle.sheetlist.specs.Held.{event_from}
 use mathlib.Core.Path.{◌≡◌}
-use native.Mathlib.Numerals.{add-one}
-use native.Mathlib.Omega.{arith}
 use Rattle.sheetlist.proofs.event_of.Given as goal
 
 abbrev pub invariant-loop-k : goal.invariant-loop-k

@@ -1,7 +1,6 @@
 use Rattle.sheet.specs.declared.RowsRead.{RowsRead}
 use Rattle.sheetlist.specs.Held.{events_from}
 use Rattle.sheetlist.proofs.HeldLaws.{head_ends}
-use borrow.Author.Rules.{rules}
 use mathlib.Core.Path.{sym, ap, ◌∙◌}
 use native.Mathlib.Omega.{arith}
 use Rattle.sheetlist.proofs.events_from.Goals as goal

@@ -1,5 +1,4 @@
 use Rattle.sheetlist.specs.Held.{next_event}
-use borrow.Author.Rules.{rules}
 use borrow.Author.Tests.{eq-eqb, ne_eqb, lt-ltb, le-ltb}
 use Rattle.sheetlist.proofs.next_event.Goals as goal
 

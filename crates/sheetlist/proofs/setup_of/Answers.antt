@@ -1,5 +1,4 @@
 use Rattle.sheetlist.specs.Held.{setup_of}
-use borrow.Author.Rules.{rules}
 use Rattle.sheetlist.proofs.setup_of.Goals as goal
 
 pub returns : goal.returns

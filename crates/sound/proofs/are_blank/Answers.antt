@@ -1,7 +1,6 @@
-use Prim.Native.Nat.{ℕ, ◌-◌, ◌≤◌}
 use Rattle.basics.specs.Limits.{places}
 use Rattle.basics.specs.Scan.{all_below}
-use Rattle.sound.specs.inner.Tables.{request_at, is_blank_or, are_blank}
+use Rattle.sound.specs.inner.Tables.{are_blank}
 use mathlib.Core.Path.{◌≡◌, refl}
 use native.Mathlib.Numerals.{add-one}
 use native.Mathlib.Omega.{arith}

@@ -1,10 +1,8 @@
 use Prim.Native.Nat.{ℕ, ◌-◌, ◌≤◌}
 use Rattle.basics.specs.Limits.{places}
 use Rattle.basics.specs.Scan.{all_below}
-use Rattle.sound.specs.inner.Tables.{request_at, is_blank_or, are_blank}
-use mathlib.Core.Path.{◌≡◌, refl}
-use native.Mathlib.Numerals.{add-one}
-use native.Mathlib.Omega.{arith}
+use Rattle.sound.specs.inner.Tables.{request_at, is_blank_or}
+use mathlib.Core.Path.{◌≡◌}
 use Rattle.sound.proofs.are_blank.Given as goal
 
 abbrev pub invariant-loop-level : goal.invariant-loop-level

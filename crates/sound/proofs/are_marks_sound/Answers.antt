@@ -1,12 +1,8 @@
-use Prim.Native.Nat.{ℕ, ◌-◌, ◌≤◌}
 use Rattle.basics.proofs.ScanLaws.{all_more, all_miss}
 use Rattle.basics.specs.Limits.{places}
 use Rattle.basics.specs.Scan.{all_below}
-use Rattle.channel.specs.Line.{is_inactive}
 use Rattle.sound.specs.inner.Tables.{are_marked}
 use borrow.Author.Tests.{not-true, not-false}
-use lib.ListN.{get_or}
-use mathlib.Core.Bool.{true, false, not, ◌&&◌, ◌||◌}
 use mathlib.Core.Path.{◌≡◌, refl, sym}
 use native.Mathlib.Omega.{arith}
 use Rattle.sound.proofs.are_marks_sound.Goals as goal

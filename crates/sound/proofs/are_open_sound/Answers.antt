@@ -1,14 +1,14 @@
-use Prim.Native.Nat.{ℕ, ◌+◌, ◌-◌, ◌*◌, ◌≤◌}
+use Prim.Native.Nat.{ℕ}
 use Rattle.basics.proofs.ScanLaws.{all_more, all_miss}
-use Rattle.basics.specs.Limits.{places, rows_most}
+use Rattle.basics.specs.Limits.{places}
 use Rattle.basics.specs.Scan.{all_below}
 use Rattle.channel.specs.declared.Request.{Request}
 use Rattle.frame.specs.Frame.{rows_present as present_rows}
-use Rattle.sound.proofs.TableLaws.{SearchedTo, searched_none, turn_closed, turn_none, turn_held, turn_on}
+use Rattle.sound.proofs.TableLaws.{searched_none, turn_closed, turn_none, turn_held, turn_on}
 use Rattle.sound.specs.inner.Tables.{request_at, open_sound, are_open_sound}
 use borrow.Author.Tests.{not-true, not-false, eq-eqb, ne_eqb}
 use lib.ListN.{get_or}
-use mathlib.Core.Bool.{true, false}
+use mathlib.Core.Bool.{false}
 use mathlib.Core.Path.{◌≡◌, refl, sym, ◌∙◌}
 use native.Mathlib.Omega.{arith}
 use Rattle.sound.proofs.are_open_sound.Goals as goal
@@ -17,7 +17,7 @@ use Rattle.sound.proofs.are_open_sound.Goals.{then-slaves-lt-ROWS_MOST, else-sla
 pub loop-level-init : goal.loop-level-init
 unfolding all_below
 loop-level-init c =
-    let e : c.if-slaves-lt-ROWS_MOST.count ≡ present_rows c.args.setup.slaves.count = 
+    let e : c.if-slaves-lt-ROWS_MOST.count ≡ present_rows c.args.setup.slaves.count =
     elim c.if-slaves-lt-ROWS_MOST.branch [ then-slaves-lt-ROWS_MOST w ↦ omega arith | else-slaves-lt-ROWS_MOST w ↦ omega arith ] in
     (omega arith, e, omega arith, refl, searched_none c.args.setup.slaves _ _ _ c.if-slaves-lt-ROWS_MOST.count e)
 

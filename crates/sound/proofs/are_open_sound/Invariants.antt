@@ -1,17 +1,12 @@
 use Prim.Native.Nat.{ℕ, ◌+◌, ◌-◌, ◌*◌, ◌≤◌}
-use Rattle.basics.proofs.ScanLaws.{all_more, all_miss}
 use Rattle.basics.specs.Limits.{places, rows_most}
 use Rattle.basics.specs.Scan.{all_below}
-use Rattle.channel.specs.declared.Request.{Request}
 use Rattle.frame.specs.Frame.{rows_present as present_rows}
-use Rattle.sound.proofs.TableLaws.{SearchedTo, searched_none, turn_closed, turn_none, turn_held, turn_on}
-use Rattle.sound.specs.inner.Tables.{request_at, open_sound, are_open_sound}
-use borrow.Author.Tests.{not-true, not-false, eq-eqb, ne_eqb}
+use Rattle.sound.proofs.TableLaws.{SearchedTo}
+use Rattle.sound.specs.inner.Tables.{request_at, open_sound}
 use lib.ListN.{get_or}
 use mathlib.Core.Bool.{true, false}
-use mathlib.Core.Logic.{⊎_elim}
-use mathlib.Core.Path.{◌≡◌, refl, sym, ◌∙◌}
-use native.Mathlib.Omega.{arith}
+use mathlib.Core.Path.{◌≡◌}
 use Rattle.sound.proofs.are_open_sound.Given as goal
 
 abbrev pub invariant-loop-level : goal.invariant-loop-level

@@ -1,12 +1,9 @@
 use Prim.Native.Nat.{ℕ, ◌-◌, ◌≤◌}
-use Rattle.basics.proofs.ScanLaws.{all_more, all_miss}
 use Rattle.basics.specs.Limits.{places}
 use Rattle.basics.specs.Scan.{all_below}
 use Rattle.channel.specs.Line.{is_inactive}
-use Rattle.sound.specs.Sound.{are_unmarked}
 use mathlib.Core.Bool.{true, not}
-use mathlib.Core.Path.{◌≡◌, refl, sym}
-use native.Mathlib.Omega.{arith}
+use mathlib.Core.Path.{◌≡◌}
 use Rattle.sound.proofs.are_unmarked.Given as goal
 
 abbrev pub invariant-loop-level : goal.invariant-loop-level

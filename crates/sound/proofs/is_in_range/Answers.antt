@@ -1,5 +1,4 @@
 use Rattle.sound.specs.Request.{is_in_range}
-use borrow.Author.Rules.{rules}
 use Rattle.sound.proofs.is_in_range.Goals as goal
 
 pub returns : goal.returns

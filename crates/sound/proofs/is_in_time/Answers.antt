@@ -1,5 +1,4 @@
 use Rattle.sound.specs.Sound.{is_in_time}
-use borrow.Author.Rules.{rules}
 use borrow.Author.Tests.{eq-eqb, ne_eqb}
 use Rattle.sound.proofs.is_in_time.Goals as goal
 

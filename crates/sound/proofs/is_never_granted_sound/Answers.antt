@@ -1,4 +1,3 @@
-use borrow.Author.Rules.{rules}
 use Rattle.sound.specs.Sound.{is_never_granted_sound}
 use Rattle.sound.proofs.is_never_granted_sound.Goals as goal
 

@@ -1,10 +1,10 @@
-use Prim.Native.Nat.{◌+◌, ◌-◌, ◌≤◌}
+use Prim.Native.Nat.{◌+◌, ◌-◌}
 use Rattle.basics.specs.Limits.{places}
 use Rattle.frame.specs.Frame.{rows_present as present_rows}
-use Rattle.sound.proofs.TableLaws.{TellsFrom, tells_none, tells_more, tells_same, tells_all}
+use Rattle.sound.proofs.TableLaws.{tells_none, tells_more, tells_same, tells_all}
 use Rattle.frame.specs.Rows.{is_level}
 use Rattle.sound.specs.inner.Tables.{is_fair_row}
-use lib.ListN.{length, length-set, replicate, get_or-replicate}
+use lib.ListN.{length-set, replicate, get_or-replicate}
 use mathlib.Core.Bool.{true, false}
 use mathlib.Core.Path.{◌≡◌, refl, ◌∙◌}
 use native.Mathlib.Omega.{arith}
@@ -14,7 +14,7 @@ use Rattle.sound.proofs.members_of.Goals.{then-levels-lt-ROWS_MOST, else-levels-
 pub loop-i-init : goal.loop-i-init
 loop-i-init c =
     let a = c.args.levels in
-    let e : c.if-levels-lt-ROWS_MOST.i ≡ present_rows a.count = 
+    let e : c.if-levels-lt-ROWS_MOST.i ≡ present_rows a.count =
     elim c.if-levels-lt-ROWS_MOST.branch [ then-levels-lt-ROWS_MOST w ↦ omega arith | else-levels-lt-ROWS_MOST w ↦ omega arith ] in (
       omega (arith, e),
       refl,

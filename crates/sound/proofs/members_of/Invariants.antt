@@ -1,14 +1,11 @@
-use Prim.Native.Nat.{◌+◌, ◌-◌, ◌≤◌}
+use Prim.Native.Nat.{◌≤◌}
 use Rattle.basics.specs.Limits.{places}
 use Rattle.frame.specs.Frame.{rows_present as present_rows}
-use Rattle.sound.proofs.TableLaws.{TellsFrom, tells_none, tells_more, tells_same, tells_all}
+use Rattle.sound.proofs.TableLaws.{TellsFrom}
 use Rattle.frame.specs.Rows.{is_level}
 use Rattle.sound.specs.inner.Tables.{is_fair_row}
-use lib.ListN.{length, length-set, replicate, get_or-replicate}
-use mathlib.Core.Bool.{true, false}
-use mathlib.Core.Logic.{⊎_elim}
-use mathlib.Core.Path.{◌≡◌, refl, ◌∙◌}
-use native.Mathlib.Omega.{arith}
+use lib.ListN.{length}
+use mathlib.Core.Path.{◌≡◌}
 use Rattle.sound.proofs.members_of.Given as goal
 
 abbrev pub invariant-loop-i : goal.invariant-loop-i

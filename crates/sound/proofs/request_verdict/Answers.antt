@@ -1,5 +1,4 @@
 use Rattle.sound.specs.Request.{request_verdict}
-use borrow.Author.Rules.{rules}
 use borrow.Author.Tests.{not-true, not-false}
 use mathlib.Core.Path.{sym, ◌∙◌}
 use Rattle.sound.proofs.request_verdict.Goals as goal

@@ -1,17 +1,15 @@
-use Prim.Native.Nat.{◌+◌, ◌-◌, ◌≤◌}
+use Prim.Native.Nat.{◌+◌, ◌-◌}
 use Rattle.basics.proofs.ScanLaws.{all_miss}
-use Rattle.basics.specs.Limits.{places, rows_most}
+use Rattle.basics.specs.Limits.{places}
 use Rattle.basics.specs.Scan.{all_below}
 use Rattle.frame.proofs.FrameLaws.{count_fits}
 use Rattle.frame.proofs.RowLaws.{level_fits_is}
 use Rattle.frame.specs.Frame.{level_row_fits, levels_fit}
 use Rattle.frame.specs.Rows.{is_level}
-use Rattle.frame.specs.declared.LevelRows.{LevelRows}
-use Rattle.sound.proofs.TableLaws.{TellsFrom, tells_none, tells_more, tells_all, fits_small, all_less}
+use Rattle.sound.proofs.TableLaws.{tells_none, tells_more, tells_all, fits_small, all_less}
 use Rattle.sound.specs.inner.Tables.{is_fair_row}
-use borrow.Author.Rules.{rules}
 use borrow.Author.Tests.{not-true, not-false}
-use lib.ListN.{length, length-set, replicate, get_or-replicate}
+use lib.ListN.{length-set, replicate, get_or-replicate}
 use mathlib.Core.Bool.{true, false, false≢true}
 use mathlib.Core.Path.{◌≡◌, refl, sym, ◌∙◌}
 use native.Mathlib.Omega.{arith}

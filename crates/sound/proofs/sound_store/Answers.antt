@@ -1,5 +1,4 @@
-use Rattle.sound.proofs.StoreLaws.{seated, rows_broken, channel_broken, stored}
-use borrow.Author.Rules.{rules}
+use Rattle.sound.proofs.StoreLaws.{rows_broken, channel_broken, stored}
 use Rattle.sound.proofs.sound_store.Goals as goal
 
 pub returns-then-not-seats-is_master_length : goal.returns-then-not-seats-is_master_length

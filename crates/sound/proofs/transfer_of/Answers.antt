@@ -1,6 +1,5 @@
 use Rattle.act.specs.Cycle.{route_of, next_time}
 use Rattle.sound.specs.Request.{transfer_of}
-use borrow.Author.Rules.{rules}
 use Rattle.sound.proofs.transfer_of.Goals as goal
 
 pub returns : goal.returns

@@ -1,7 +1,5 @@
 use mathlib.Core.Path.{sym, ◌∙◌}
 use Rattle.step.specs.Step.{slave_after_carry, master_after_carry}
-use Rattle.step.proofs.CarryLaws.{room_is}
-use borrow.Author.Rules.{rules}
 use Rattle.step.proofs.carry_bytes.Goals as goal
 
 pub returns-then-carry_fits : goal.returns-then-carry_fits

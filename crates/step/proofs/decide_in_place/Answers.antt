@@ -1,6 +1,5 @@
 use mathlib.Core.Path.{◌∙◌}
 use Rattle.step.proofs.MachineLaws.{place_small, actable, decision_made}
-use borrow.Author.Rules.{rules}
 use Rattle.step.proofs.decide_in_place.Goals as goal
 
 pub slot_at-request-requires : goal.slot_at-request-requires

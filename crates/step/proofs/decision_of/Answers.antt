@@ -1,7 +1,6 @@
 use mathlib.Core.Path.{sym, ◌∙◌}
 use Rattle.step.proofs.PlanLaws.{ready_act}
 use Rattle.step.proofs.CarryLaws.{refused_decision_lem, ready_decision}
-use borrow.Author.Rules.{rules}
 use Rattle.step.proofs.decision_of.Goals as goal
 
 pub decide_ready-requires : goal.decide_ready-requires

@@ -1,7 +1,6 @@
 use mathlib.Core.Path.{sym, ◌∙◌}
 use Rattle.step.proofs.PlanLaws.{ready_is}
 use Rattle.step.specs.Log.{log_run_of}
-use borrow.Author.Rules.{rules}
 use Rattle.step.proofs.log_run.Goals as goal
 
 pub log_ready-requires : goal.log_ready-requires

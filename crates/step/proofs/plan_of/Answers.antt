@@ -1,7 +1,6 @@
 use mathlib.Core.Path.{sym, ap, ◌∙◌}
 use Rattle.step.specs.Plan.{plan_of, plan_by}
 use Rattle.step.proofs.PlanLaws.{ready_act}
-use borrow.Author.Rules.{rules}
 use Rattle.step.proofs.plan_of.Goals as goal
 
 pub plan_ready-requires : goal.plan_ready-requires

@@ -3,7 +3,6 @@ use Rattle.step.specs.declared.Decision.{Decision}
 use Rattle.step.specs.Plan.{act_plan}
 use Rattle.step.specs.inner.Machine.{plan_in}
 use Rattle.step.proofs.PlanLaws.{plan_in_lem}
-use borrow.Author.Rules.{rules}
 use Rattle.step.proofs.plan_ready.Goals as goal
 
 pub returns : goal.returns

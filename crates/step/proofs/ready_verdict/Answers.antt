@@ -1,7 +1,6 @@
 use Rattle.sound.proofs.StoreLaws.{store_nine, store_told}
 use Rattle.step.specs.Plan.{ready_verdict}
 use mathlib.Core.Path.{sym, ◌∙◌}
-use borrow.Author.Rules.{rules}
 use Rattle.step.proofs.ready_verdict.Goals as goal
 
 pub returns-then-not-slave-length : goal.returns-then-not-slave-length

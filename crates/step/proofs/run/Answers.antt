@@ -1,7 +1,6 @@
 use mathlib.Core.Path.{sym, ◌∙◌}
 use Rattle.step.proofs.PlanLaws.{ready_is}
 use Rattle.step.specs.Run.{run_of}
-use borrow.Author.Rules.{rules}
 use Rattle.step.proofs.run.Goals as goal
 
 pub run_ready-requires : goal.run_ready-requires

@@ -1,6 +1,4 @@
-use borrow.Author.Tests.{lt-ltb, le-ltb}
-use borrow.Author.Rules.{rules}
-use native.Mathlib.Omega.{arith}
+use borrow.Author.Tests.{le-ltb}
 use Rattle.step.specs.Run.{run_from}
 use Rattle.step.proofs.run_ready.Goals as goal
 

@@ -1,7 +1,6 @@
 use mathlib.Core.Path.{ap, ◌∙◌}
 use Rattle.step.specs.declared.Decision.{Decision}
 use Rattle.step.proofs.CarryLaws.{decided_room, decided_stores, decided_step}
-use borrow.Author.Rules.{rules}
 use Rattle.step.proofs.step.Goals as goal
 
 pub carry-requires : goal.carry-requires

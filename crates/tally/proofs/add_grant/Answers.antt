@@ -1,5 +1,4 @@
 use Rattle.tally.specs.Tally.{add_grant}
-use borrow.Author.Rules.{rules}
 use Rattle.tally.proofs.add_grant.Goals as goal
 
 pub returns : goal.returns

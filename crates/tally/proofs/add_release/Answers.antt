@@ -1,5 +1,4 @@
 use Rattle.tally.specs.Tally.{add_release}
-use borrow.Author.Rules.{rules}
 use Rattle.tally.proofs.add_release.Goals as goal
 
 pub returns : goal.returns

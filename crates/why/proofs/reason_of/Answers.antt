@@ -1,4 +1,3 @@
-use borrow.Author.Rules.{rules}
 use mathlib.Core.Path.{sym, ap, ◌∙◌}
 use Rattle.channel.specs.declared.Request.{Request}
 use Rattle.why.specs.declared.Reason.TheVariants.{Holds}

@@ -1,4 +1,3 @@
-use borrow.Author.Rules.{rules}
 use mathlib.Core.Path.{sym, ◌∙◌}
 use Rattle.sound.proofs.StoreLaws.{store_nine, store_told}
 use Rattle.why.specs.Why.{why_of}

@@ -1,8 +1,6 @@
 use Prim.Native.Nat.{ℕ}
-use borrow.Author.Rules.{rules}
 use mathlib.Core.List.{List}
 use mathlib.Core.Path.{ap₂, ◌∙◌}
-use native.Mathlib.Omega.{arith}
 use Rattle.logline.specs.Text.{put_decimal, put_decimal_after}
 use Rattle.whyline.proofs.PieceLaws.{counted_place, counted_out}
 use Rattle.whyline.proofs.put_counted.Goals as goal

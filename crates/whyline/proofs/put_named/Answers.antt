@@ -1,8 +1,7 @@
-use borrow.Author.Rules.{rules}
 use mathlib.Core.Path.{◌∙◌}
 use native.Mathlib.Omega.{arith}
 use Rattle.whyline.specs.Words.{counted}
-use Rattle.whyline.proofs.PieceLaws.{then_place, then_next, counted_most}
+use Rattle.whyline.proofs.PieceLaws.{then_place, then_next}
 use Rattle.whyline.proofs.put_named.Goals as goal
 
 pub returns : goal.returns

@@ -1,4 +1,3 @@
-use borrow.Author.Rules.{rules}
 use Rattle.whyline.proofs.put_reason.Goals as goal
 
 pub returns-in-NoRequest : goal.returns-in-NoRequest

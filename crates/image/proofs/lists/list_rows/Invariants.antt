@@ -1,16 +1,10 @@
-use borrow.Author.Rules.{rules}
-use Prim.Native.Nat.{ℕ, suc, ◌+◌, ◌-◌, ◌*◌, ◌≤◌}
-use mathlib.Core.Path.{◌≡◌, refl, sym, ap, ◌∙◌}
-use native.Mathlib.Nat.{sub-zero}
-use native.Mathlib.Omega.{arith}
-use lib.ListN.{length, length-set}
+use Prim.Native.Nat.{ℕ, ◌+◌, ◌-◌, ◌*◌, ◌≤◌}
+use mathlib.Core.Path.{◌≡◌}
+use lib.ListN.{length}
 use lib.Seq.{sets}
 use Rattle.basics.specs.Limits.{rows_most}
-use Rattle.frame.specs.declared.LevelRows.{LevelRows}
-use Rattle.frame.specs.declared.SlaveRows.{SlaveRows}
-use Rattle.frame.specs.declared.Setup.{Setup}
 use Rattle.image.specs.Layout.{rows_numbers}
-use Rattle.image.proofs.LayLaws.{tables, level_laid, level_size, slave_laid, slave_size, rows_done}
+use Rattle.image.proofs.LayLaws.{tables}
 use Rattle.image.proofs.lists.list_rows.Given as goal
 
 abbrev pub invariant-loop-i : goal.invariant-loop-i

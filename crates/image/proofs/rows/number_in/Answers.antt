@@ -1,5 +1,4 @@
 use Rattle.numbers.specs.Numbers.{number_between}
-use borrow.Author.Rules.{rules}
 use mathlib.Core.Path.{sym, ◌∙◌}
 use Rattle.image.proofs.rows.number_in.Goals as goal
 

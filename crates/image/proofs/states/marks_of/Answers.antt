@@ -1,11 +1,8 @@
-use Prim.Native.Nat.{suc, ◌+◌, ◌-◌, ◌≤◌}
-use borrow.Author.Rules.{rules}
+use Prim.Native.Nat.{suc, ◌+◌, ◌-◌}
 use mathlib.Core.Path.{◌≡◌, ◌∙◌}
 use native.Mathlib.Omega.{arith}
-use lib.Seq.{sets}
 use Rattle.basics.specs.Limits.{places}
-use Rattle.image.specs.Read.{marks_of}
-use Rattle.image.proofs.MarkLaws.{marks_laid, marks_on}
+use Rattle.image.proofs.MarkLaws.{marks_on}
 use Rattle.image.proofs.states.marks_of.Goals as goal
 
 pub loop-level-preserved : goal.loop-level-preserved

@@ -1,11 +1,8 @@
-use Prim.Native.Nat.{suc, ◌+◌, ◌-◌, ◌≤◌}
-use borrow.Author.Rules.{rules}
-use mathlib.Core.Path.{◌≡◌, ◌∙◌}
-use native.Mathlib.Omega.{arith}
+use Prim.Native.Nat.{◌-◌, ◌≤◌}
+use mathlib.Core.Path.{◌≡◌}
 use lib.Seq.{sets}
 use Rattle.basics.specs.Limits.{places}
 use Rattle.image.specs.Read.{marks_of}
-use Rattle.image.proofs.MarkLaws.{marks_laid, marks_on}
 use Rattle.image.proofs.states.marks_of.Given as goal
 
 abbrev pub invariant-loop-level : goal.invariant-loop-level

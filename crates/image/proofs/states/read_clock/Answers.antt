@@ -1,4 +1,3 @@
-use borrow.Author.Rules.{rules}
 use mathlib.Core.Path.{sym, ◌∙◌}
 use Rattle.image.specs.Read.{clock_at}
 use Rattle.image.proofs.states.read_clock.Goals as goal

@@ -1,4 +1,3 @@
-use borrow.Author.Rules.{rules}
 use mathlib.Core.Path.{sym, ap, ◌∙◌}
 use Rattle.image.specs.Read.{channel_read, marks_at}
 use Rattle.channel.specs.Channel.{fresh_channel}

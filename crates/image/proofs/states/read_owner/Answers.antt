@@ -1,4 +1,3 @@
-use borrow.Author.Rules.{rules}
 use mathlib.Core.Path.{sym, ap, ◌∙◌}
 use Rattle.basics.specs.Limits.{places}
 use Rattle.refusal.specs.declared.Refusal.TheVariants.{Malformed}

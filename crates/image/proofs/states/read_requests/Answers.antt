@@ -1,12 +1,11 @@
-use borrow.Author.Rules.{rules}
-use Prim.Native.Nat.{suc, ◌+◌, ◌-◌, ◌≤◌}
-use mathlib.Core.Path.{◌≡◌, refl, sym, ap, ◌∙◌}
+use Prim.Native.Nat.{suc, ◌+◌, ◌-◌}
+use mathlib.Core.Path.{◌≡◌, sym, ap, ◌∙◌}
 use native.Mathlib.Omega.{arith}
 use lib.ListN.{length}
 use Rattle.basics.specs.Limits.{places}
 use Rattle.number.specs.Number.{read_number}
 use Rattle.channel.specs.Channel.{with_request}
-use Rattle.image.specs.Read.{channel_read, requests_at, nothing_after}
+use Rattle.image.specs.Read.{channel_read, nothing_after}
 use Rattle.image.proofs.TurnLaws.{requests_fault, requests_none, requests_short, requests_on, requests_done}
 use Rattle.image.proofs.states.read_requests.Goals as goal
 

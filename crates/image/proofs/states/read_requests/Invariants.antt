@@ -1,13 +1,8 @@
-use borrow.Author.Rules.{rules}
-use Prim.Native.Nat.{suc, ◌+◌, ◌-◌, ◌≤◌}
-use mathlib.Core.Path.{◌≡◌, refl, sym, ap, ◌∙◌}
-use native.Mathlib.Omega.{arith}
-use lib.ListN.{length}
+use Prim.Native.Nat.{◌-◌, ◌≤◌}
+use mathlib.Core.Path.{◌≡◌}
 use Rattle.basics.specs.Limits.{places}
 use Rattle.number.specs.Number.{read_number}
-use Rattle.channel.specs.Channel.{with_request}
-use Rattle.image.specs.Read.{channel_read, requests_at, nothing_after}
-use Rattle.image.proofs.TurnLaws.{requests_fault, requests_none, requests_short, requests_on, requests_done}
+use Rattle.image.specs.Read.{requests_at}
 use Rattle.image.proofs.states.read_requests.Given as goal
 
 abbrev pub invariant-loop-level : goal.invariant-loop-level

@@ -1,4 +1,3 @@
-use borrow.Author.Rules.{rules}
 use mathlib.Core.Path.{ap₂, ◌∙◌}
 use Rattle.basics.specs.Limits.{rows_most}
 use Rattle.refusal.specs.declared.Refusal.TheVariants.{Malformed}

@@ -1,13 +1,8 @@
-use Prim.Native.Nat.{suc, ◌+◌, ◌-◌, ◌≤◌}
-use borrow.Author.Rules.{rules}
+use Prim.Native.Nat.{suc, ◌+◌, ◌-◌}
 use mathlib.Core.Path.{◌≡◌, ◌∙◌}
-use native.Mathlib.Nat.{sub-zero}
 use native.Mathlib.Omega.{arith}
 use Rattle.number.specs.Number.{read_number}
-use Rattle.frame.specs.declared.RowKind.TheVariants.{Levels}
-use Rattle.frame.specs.Kind.{no_rows, with_levels, with_count}
-use Rattle.image.specs.Read.{rows_at}
-use Rattle.image.proofs.TurnLaws.{level_fault, level_on}
+use Rattle.image.proofs.TurnLaws.{level_on}
 use Rattle.image.proofs.tables.read_levels.Goals as goal
 
 pub loop-i-preserved : goal.loop-i-preserved

@@ -1,4 +1,3 @@
-use borrow.Author.Rules.{rules}
 use mathlib.Core.Path.{sym, ap, ◌∙◌}
 use Rattle.frame.specs.Kind.{no_rows}
 use Rattle.sheet.specs.Sheet.{rows_read}

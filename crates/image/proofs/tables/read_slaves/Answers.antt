@@ -1,13 +1,7 @@
-use Prim.Native.Nat.{suc, ◌+◌, ◌-◌, ◌≤◌}
-use borrow.Author.Rules.{rules}
+use Prim.Native.Nat.{suc, ◌+◌, ◌-◌}
 use mathlib.Core.Path.{◌≡◌, ◌∙◌}
-use native.Mathlib.Nat.{sub-zero}
 use native.Mathlib.Omega.{arith}
 use Rattle.number.specs.Number.{read_number}
-use Rattle.frame.specs.declared.RowKind.TheVariants.{Slaves}
-use Rattle.frame.specs.Kind.{no_rows, with_levels, with_slaves, with_count}
-use Rattle.frame.specs.declared.LevelRows.{LevelRows}
-use Rattle.image.specs.Read.{rows_at}
 use Rattle.image.proofs.TurnLaws.{slave_fault, slave_on}
 use Rattle.image.proofs.tables.read_slaves.Goals as goal
 

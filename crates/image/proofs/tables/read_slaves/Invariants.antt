@@ -1,14 +1,10 @@
-use Prim.Native.Nat.{suc, ◌+◌, ◌-◌, ◌≤◌}
-use borrow.Author.Rules.{rules}
-use mathlib.Core.Path.{◌≡◌, ◌∙◌}
-use native.Mathlib.Nat.{sub-zero}
-use native.Mathlib.Omega.{arith}
+use Prim.Native.Nat.{◌-◌, ◌≤◌}
+use mathlib.Core.Path.{◌≡◌}
 use Rattle.number.specs.Number.{read_number}
 use Rattle.frame.specs.declared.RowKind.TheVariants.{Slaves}
 use Rattle.frame.specs.Kind.{no_rows, with_levels, with_slaves, with_count}
 use Rattle.frame.specs.declared.LevelRows.{LevelRows}
 use Rattle.image.specs.Read.{rows_at}
-use Rattle.image.proofs.TurnLaws.{slave_fault, slave_on}
 use Rattle.image.proofs.tables.read_slaves.Given as goal
 
 abbrev pub invariant-loop-i : goal.invariant-loop-i

@@ -1,4 +1,3 @@
-use borrow.Author.Rules.{rules}
 use mathlib.Core.Path.{sym, ap, ◌∙◌}
 use Rattle.number.specs.Number.{read_number}
 use Rattle.frame.specs.Kind.{no_rows}

@@ -1,4 +1,3 @@
-use borrow.Author.Rules.{rules}
 use native.Mathlib.Omega.{arith}
 use Rattle.number.proofs.Laws.{bytes_most}
 use Rattle.image.proofs.WriteLaws.{asked_size, channel_laid}

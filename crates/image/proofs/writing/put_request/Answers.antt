@@ -1,4 +1,3 @@
-use borrow.Author.Rules.{rules}
 use native.Mathlib.Omega.{arith}
 use Rattle.image.proofs.WriteLaws.{fields_most, request_laid}
 use Rattle.image.proofs.writing.put_request.Goals as goal

@@ -1,13 +1,10 @@
-use borrow.Author.Rules.{rules}
-use Prim.Native.Nat.{ℕ, suc, ◌+◌, ◌-◌, ◌*◌, ◌≤◌}
-use mathlib.Core.Path.{◌≡◌, refl, ◌∙◌}
-use mathlib.Core.List.{List}
+use Prim.Native.Nat.{suc, ◌+◌, ◌-◌}
+use mathlib.Core.Path.{◌≡◌, ◌∙◌}
 use native.Mathlib.Omega.{arith}
-use lib.ListN.{length, length-set}
+use lib.ListN.{length-set}
 use Rattle.basics.specs.Limits.{places}
 use Rattle.channel.specs.Channel.{request_of}
-use Rattle.image.specs.Layout.{requests_numbers}
-use Rattle.image.proofs.WriteLaws.{Laid, laid_none, none_on, some_on, request_size, requests_done}
+use Rattle.image.proofs.WriteLaws.{laid_none, none_on, some_on, request_size, requests_done}
 use Rattle.image.proofs.writing.put_requests.Goals as goal
 
 pub loop-level-preserved-then-left-eq0 : goal.loop-level-preserved-then-left-eq0

@@ -1,13 +1,10 @@
-use borrow.Author.Rules.{rules}
-use Prim.Native.Nat.{ℕ, suc, ◌+◌, ◌-◌, ◌*◌, ◌≤◌}
-use mathlib.Core.Path.{◌≡◌, refl, ◌∙◌}
+use Prim.Native.Nat.{ℕ, ◌+◌, ◌-◌, ◌*◌, ◌≤◌}
+use mathlib.Core.Path.{◌≡◌}
 use mathlib.Core.List.{List}
-use native.Mathlib.Omega.{arith}
-use lib.ListN.{length, length-set}
+use lib.ListN.{length}
 use Rattle.basics.specs.Limits.{places}
-use Rattle.channel.specs.Channel.{request_of}
 use Rattle.image.specs.Layout.{requests_numbers}
-use Rattle.image.proofs.WriteLaws.{Laid, laid_none, none_on, some_on, request_size, requests_done}
+use Rattle.image.proofs.WriteLaws.{Laid}
 use Rattle.image.proofs.writing.put_requests.Given as goal
 
 abbrev pub invariant-loop-level : goal.invariant-loop-level

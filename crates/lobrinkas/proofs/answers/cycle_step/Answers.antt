@@ -1,4 +1,3 @@
-use borrow.Author.Rules.{rules}
 use Rattle.lobrinkas.specs.Answers.{cycle_step}
 use Rattle.lobrinkas.proofs.answers.cycle_step.Goals as goal
 

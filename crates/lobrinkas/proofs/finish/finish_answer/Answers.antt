@@ -1,4 +1,3 @@
-use borrow.Author.Rules.{rules}
 use mathlib.Core.Path.{sym, ap, ap₂, ◌∙◌}
 use Rattle.lobrinkas.specs.declared.Answer.{Answer}
 use Rattle.lobrinkas.specs.Calls.{answering}

@@ -1,4 +1,3 @@
-use borrow.Author.Rules.{rules}
 use mathlib.Core.Path.{sym, ap, ap₂, ◌∙◌}
 use Rattle.lobrinkas.specs.declared.Ran.{Ran}
 use Rattle.lobrinkas.specs.inner.Finish.{run_left, run_finished}

@@ -1,4 +1,3 @@
-use borrow.Author.Rules.{rules}
 use mathlib.Core.Path.{sym, ap, ap₂, ◌∙◌}
 use Rattle.lobrinkas.specs.Calls.{answering}
 use Rattle.lobrinkas.specs.inner.Finish.{set_up_finished}

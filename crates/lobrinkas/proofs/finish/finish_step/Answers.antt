@@ -1,4 +1,3 @@
-use borrow.Author.Rules.{rules}
 use mathlib.Core.Path.{sym, ◌∙◌}
 use Rattle.lobrinkas.proofs.FinishLaws.{step_none, step_short, step_made_lem}
 use Rattle.lobrinkas.proofs.finish.finish_step.Goals as goal

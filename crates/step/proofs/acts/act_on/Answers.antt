@@ -1,10 +1,9 @@
 use mathlib.Core.Path.{sym, ap, ◌∙◌}
-use borrow.Author.Tests.{eq-eqb, ne_eqb, ltb-false}
+use borrow.Author.Tests.{eq-eqb, ne_eqb}
 use Prim.Native.Nat.{ℕ, ◌+◌}
 use lib.Dec.{ltb}
 use Rattle.basics.specs.Limits.{clock_limit}
-use Rattle.step.proofs.DecideLaws.{from_first, decides_full, decides_grant, decides_rest, decides_late, decides_cycle}
-use borrow.Author.Rules.{rules}
+use Rattle.step.proofs.DecideLaws.{decides_full, decides_grant, decides_rest, decides_late, decides_cycle}
 use Rattle.step.proofs.acts.act_on.Goals as goal
 
 pub returns-then-is_full : goal.returns-then-is_full

@@ -1,7 +1,6 @@
 use Rattle.step.proofs.SearchLaws.{is, chosen_active, chosen_quiet, winner_small}
 use mathlib.Core.Path.{sym, ◌∙◌}
 use native.Mathlib.Omega.{arith}
-use borrow.Author.Rules.{rules}
 use Rattle.step.proofs.acts.choose.Goals as goal
 
 pub overflow_add-winner : goal.overflow_add-winner

@@ -1,5 +1,4 @@
 use Rattle.step.specs.inner.Machine.{cycle_acted}
-use borrow.Author.Rules.{rules}
 use Rattle.step.proofs.acts.cycle_acted.Goals as goal
 
 pub returns : goal.returns

@@ -1,5 +1,4 @@
 use Rattle.step.specs.inner.Machine.{cycle_decided, cycle_marks, after_cycle}
-use borrow.Author.Rules.{rules}
 use Rattle.step.proofs.acts.cycle_decided.Goals as goal
 
 pub returns : goal.returns

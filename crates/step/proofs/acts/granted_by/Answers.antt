@@ -1,5 +1,4 @@
 use Rattle.step.specs.inner.Machine.{granted_by}
-use borrow.Author.Rules.{rules}
 use Rattle.step.proofs.acts.granted_by.Goals as goal
 
 pub returns : goal.returns

@@ -1,9 +1,7 @@
-use mathlib.Core.Path.{◌≡◌, refl, sym, ◌∙◌}
-use native.Mathlib.Omega.{arith}
+use mathlib.Core.Path.{◌≡◌}
 use Prim.Native.Nat.{◌-◌}
 use Rattle.basics.specs.Limits.{places}
 use Rattle.step.specs.inner.Machine.{any_from, asks_beside, others_from}
-use Rattle.step.proofs.SearchLaws.{from_hit, from_miss}
 use Rattle.step.proofs.acts.others_from.Given as goal
 
 abbrev pub invariant-loop-level : goal.invariant-loop-level

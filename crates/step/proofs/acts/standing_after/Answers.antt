@@ -1,6 +1,5 @@
 use mathlib.Core.Path.{sym, ◌∙◌}
 use Rattle.step.specs.inner.Machine.{standing_after}
-use borrow.Author.Rules.{rules}
 use Rattle.step.proofs.acts.standing_after.Goals as goal
 
 pub returns-then-is_kept : goal.returns-then-is_kept

@@ -1,10 +1,8 @@
-use mathlib.Core.Path.{◌≡◌, refl, sym, ◌∙◌}
-use native.Mathlib.Omega.{arith}
+use mathlib.Core.Path.{◌≡◌}
 use Prim.Native.Nat.{◌-◌}
 use Rattle.basics.specs.Limits.{places}
 use Rattle.channel.specs.Line.{waits}
 use Rattle.step.specs.inner.Machine.{any_from, waits_from}
-use Rattle.step.proofs.SearchLaws.{from_hit, from_miss}
 use Rattle.step.proofs.acts.waits_from.Given as goal
 
 abbrev pub invariant-loop-level : goal.invariant-loop-level

@@ -1,6 +1,5 @@
 use Rattle.step.proofs.AfterLaws.{after_done, some_left, after_leaving, after_staying}
 use mathlib.Core.Path.{sym, ◌∙◌}
-use borrow.Author.Rules.{rules}
 use Rattle.step.proofs.cycles.after_cycle.Goals as goal
 
 pub returns-then-bytes-request : goal.returns-then-bytes-request

@@ -1,4 +1,3 @@
-use borrow.Author.Rules.{rules}
 use borrow.Author.Tests.{eq-eqb, ne_eqb}
 use Rattle.step.specs.Step.{moved_slave, moved_master}
 use Rattle.step.proofs.cycles.carry.Goals as goal

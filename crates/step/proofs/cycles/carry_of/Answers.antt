@@ -1,5 +1,3 @@
-use native.Mathlib.Omega.{arith}
-use borrow.Author.Rules.{rules}
 use Rattle.step.specs.Step.{carry_of}
 use Rattle.step.proofs.cycles.carry_of.Goals as goal
 

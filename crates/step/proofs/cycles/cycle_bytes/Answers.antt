@@ -1,6 +1,4 @@
-use mathlib.Core.Path.{sym, ◌∙◌}
-use borrow.Author.Rules.{rules}
-use Rattle.step.proofs.ByteLaws.{whole_bytes, single_byte, table_bytes}
+use Rattle.step.proofs.ByteLaws.{whole_bytes, table_bytes}
 use Rattle.step.proofs.cycles.cycle_bytes.Goals as goal
 
 pub returns-then-request : goal.returns-then-request

@@ -1,5 +1,4 @@
 use mathlib.Core.Path.{sym, ◌∙◌}
-use borrow.Author.Rules.{rules}
 use borrow.Author.Tests.{not-true, not-false}
 use Rattle.act.specs.Cycle.{is_late}
 use Rattle.step.proofs.cycles.is_late.Goals as goal

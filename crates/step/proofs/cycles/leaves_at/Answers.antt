@@ -1,6 +1,5 @@
 use mathlib.Core.Path.{sym, ◌∙◌}
-use borrow.Author.Rules.{rules}
-use borrow.Author.Tests.{eqb-true, not-true, not-false}
+use borrow.Author.Tests.{not-true, not-false}
 use Rattle.step.proofs.AfterLaws.{leaves_inside, leaves_single, leaves_late}
 use Rattle.step.proofs.cycles.leaves_at.Goals as goal
 

@@ -1,9 +1,7 @@
-use Prim.Native.Nat.{◌≤◌, ◌-◌}
-use mathlib.Core.Path.{◌≡◌, refl}
 use native.Mathlib.Omega.{arith}
 use native.Mathlib.Numerals.{add-one}
-use lib.ListN.{length, drop, length-set, length-drop}
-use lib.Seq.{paste, paste-zero, paste-suc, get_or-drop}
+use lib.ListN.{drop, length-set, length-drop}
+use lib.Seq.{paste-suc, get_or-drop}
 use Rattle.step.proofs.cycles.move_any.Goals as goal
 
 pub loop-i-preserved : goal.loop-i-preserved

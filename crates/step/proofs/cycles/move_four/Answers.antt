@@ -1,9 +1,8 @@
 use native.Mathlib.Omega.{arith}
-use lib.ListN.{drop, length-set, length-drop}
+use lib.ListN.{drop, length-drop}
 use lib.Seq.{get_or-drop}
 use native.Mathlib.Nat.{add-zero}
 use Rattle.step.proofs.ByteLaws.{paste_four}
-use borrow.Author.Rules.{rules}
 use Rattle.step.proofs.cycles.move_four.Goals as goal
 
 pub returns : goal.returns

@@ -3,7 +3,6 @@ use lib.ListN.{drop, length-drop}
 use lib.Seq.{get_or-drop}
 use native.Mathlib.Nat.{add-zero}
 use Rattle.step.proofs.ByteLaws.{paste_one}
-use borrow.Author.Rules.{rules}
 use Rattle.step.proofs.cycles.move_one.Goals as goal
 
 pub returns : goal.returns

@@ -2,8 +2,6 @@ use Rattle.cycle.proofs.Widths.{width_some}
 use mathlib.Core.Path.{sym, ◌∙◌}
 use mathlib.Core.Path.{sym, ◌∙◌}
 use native.Mathlib.Omega.{arith}
-use borrow.Author.Rules.{rules}
-use Rattle.basics.proofs.Product.{product_below}
 use Rattle.step.proofs.ByteLaws.{time_four, time_two, time_one, one_left}
 use Rattle.step.proofs.cycles.next_time.Goals as goal
 

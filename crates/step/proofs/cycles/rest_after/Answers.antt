@@ -1,7 +1,6 @@
 use native.Mathlib.Omega.{arith}
 use borrow.Author.Tests.{ne_eqb}
 use Rattle.act.specs.Cycle.{rest_after}
-use borrow.Author.Rules.{rules}
 use Rattle.step.proofs.cycles.rest_after.Goals as goal
 
 pub returns : goal.returns

@@ -1,6 +1,4 @@
-use native.Mathlib.Omega.{arith}
-use Rattle.step.proofs.LogLaws.{acts_at, room_at, log_done, log_full}
-use borrow.Author.Rules.{rules}
+use Rattle.step.proofs.LogLaws.{log_done, log_full}
 use Rattle.step.proofs.logs.log_step.Goals as goal
 
 pub returns-in_default : goal.returns-in_default

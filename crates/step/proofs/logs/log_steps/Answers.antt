@@ -1,11 +1,8 @@
-use mathlib.Core.Path.{◌≡◌, refl, sym, ap, ◌∙◌}
+use mathlib.Core.Path.{refl, sym, ap, ◌∙◌}
 use native.Mathlib.Omega.{arith}
-use lib.ListN.{length}
-use Rattle.frame.specs.declared.Setup.{Setup}
 use Rattle.step.specs.Log.{LoggedOut}
-use Rattle.step.specs.inner.Turns.{logging_of}
-use Rattle.step.proofs.GoingLaws.{Going, place_below, loggable, nearness, nearer}
-use Rattle.step.proofs.LogLaws.{Logs, logs_first, goes, logs_on, logs_more, log_finished, log_first}
+use Rattle.step.proofs.GoingLaws.{place_below, loggable, nearer}
+use Rattle.step.proofs.LogLaws.{goes, logs_on, logs_more, log_finished, log_first}
 use Rattle.step.proofs.logs.log_steps.Goals as goal
 
 pub bounds-routes-place : goal.bounds-routes-place

@@ -1,11 +1,9 @@
-use mathlib.Core.Path.{◌≡◌, refl, sym, ap, ◌∙◌}
-use native.Mathlib.Omega.{arith}
+use mathlib.Core.Path.{◌≡◌}
 use lib.ListN.{length}
 use Rattle.frame.specs.declared.Setup.{Setup}
-use Rattle.step.specs.Log.{LoggedOut}
 use Rattle.step.specs.inner.Turns.{logging_of}
-use Rattle.step.proofs.GoingLaws.{Going, place_below, loggable, nearness, nearer}
-use Rattle.step.proofs.LogLaws.{Logs, logs_first, goes, logs_on, logs_more, log_finished, log_first}
+use Rattle.step.proofs.GoingLaws.{Going, nearness}
+use Rattle.step.proofs.LogLaws.{Logs}
 use Rattle.step.proofs.logs.log_steps.Given as goal
 
 abbrev pub invariant-loop-log : goal.invariant-loop-log

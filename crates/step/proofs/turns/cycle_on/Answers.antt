@@ -1,6 +1,5 @@
 use Rattle.step.specs.inner.Machine.{after_cycle}
 use Rattle.step.specs.inner.Turns.{cycle_on}
-use borrow.Author.Rules.{rules}
 use Rattle.step.proofs.turns.cycle_on.Goals as goal
 
 pub returns : goal.returns

@@ -1,11 +1,9 @@
-use mathlib.Core.Path.{◌≡◌, refl, sym, ap, ◌∙◌}
+use mathlib.Core.Path.{◌≡◌, sym, ap, ◌∙◌}
 use native.Mathlib.Omega.{arith}
 use borrow.Author.Tests.{ltb-true, ltb-false, not-true, not-false}
-use Prim.Native.Nat.{◌+◌, ◌-◌, ◌≤◌}
-use lib.ListN.{length}
+use Prim.Native.Nat.{◌+◌, ◌-◌}
 use Rattle.basics.specs.Limits.{clock_limit}
 use Rattle.act.specs.Cycle.{is_kept}
-use Rattle.step.specs.Step.{Roomy}
 use Rattle.step.specs.inner.Turns.{Held, held}
 use Rattle.step.specs.declared.turns.Tenure.{Tenure}
 use Rattle.step.proofs.PlanLaws.{carry_room}

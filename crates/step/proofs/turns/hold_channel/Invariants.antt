@@ -1,15 +1,9 @@
-use mathlib.Core.Path.{◌≡◌, refl, sym, ap, ◌∙◌}
-use native.Mathlib.Omega.{arith}
-use borrow.Author.Tests.{ltb-true, ltb-false, not-true, not-false}
-use Prim.Native.Nat.{◌+◌, ◌-◌, ◌≤◌}
+use mathlib.Core.Path.{◌≡◌}
+use Prim.Native.Nat.{◌-◌, ◌≤◌}
 use lib.ListN.{length}
 use Rattle.basics.specs.Limits.{clock_limit}
-use Rattle.act.specs.Cycle.{is_kept}
 use Rattle.step.specs.Step.{Roomy}
-use Rattle.step.specs.inner.Turns.{Held, held}
-use Rattle.step.specs.declared.turns.Tenure.{Tenure}
-use Rattle.step.proofs.PlanLaws.{carry_room}
-use Rattle.step.proofs.HeldLaws.{held_full, held_ends, held_on, kept_some, roomy_on, cycled_facts}
+use Rattle.step.specs.inner.Turns.{held}
 use Rattle.step.proofs.turns.hold_channel.Given as goal
 
 abbrev pub invariant-loop-tenure : goal.invariant-loop-tenure

@@ -1,8 +1,6 @@
-use native.Mathlib.Omega.{arith}
 use Prim.Native.Nat.{◌-◌, ◌≤◌}
 use Rattle.basics.specs.Limits.{system_master}
 use Rattle.step.specs.inner.Machine.{NoneAsk}
-use Rattle.step.proofs.SearchLaws.{none_more}
 use Rattle.step.proofs.turns.lowest.Given as goal
 
 abbrev pub invariant-loop-level : goal.invariant-loop-level

@@ -1,11 +1,9 @@
-use mathlib.Core.Path.{◌≡◌, refl, ◌∙◌}
-use native.Mathlib.Omega.{arith}
+use mathlib.Core.Path.{◌≡◌}
 use Prim.Native.Nat.{◌-◌, ◌≤◌}
-use lib.ListN.{length, length-set}
+use lib.ListN.{length}
 use Rattle.basics.specs.Limits.{places}
 use Rattle.sound.specs.inner.Tables.{request_at}
 use Rattle.step.specs.inner.Turns.{AreRoutes}
-use Rattle.step.proofs.RouteLaws.{route_more, route_none}
 use Rattle.step.proofs.turns.routes_of.Given as goal
 
 abbrev pub invariant-loop-level : goal.invariant-loop-level

@@ -1,6 +1,5 @@
 use mathlib.Core.Path.{refl}
 use Rattle.step.proofs.PutLaws.{put_back}
-use borrow.Author.Rules.{rules}
 use Rattle.step.proofs.turns.run_cycles.Goals as goal
 
 pub returns : goal.returns

@@ -1,28 +1,10 @@
-use mathlib.Core.Path.{◌≡◌, refl, sym, ap, ◌∙◌}
-use mathlib.Core.Bool.{true}
-use native.Mathlib.Omega.{arith}
+use mathlib.Core.Path.{refl, sym, ap, ◌∙◌}
 use borrow.Author.Tests.{ltb-true, not-true}
-use lib.ListN.{length}
 use lib.Dec.{ltb}
 use Rattle.basics.proofs.Tests.{and_left, and_right}
-use Rattle.frame.specs.declared.Setup.{Setup}
 use Rattle.sound.proofs.SoundFacts.{sound_is}
 use Rattle.step.specs.Run.{Out}
-use Rattle.step.specs.inner.Turns.{running_of, Lows}
-use Rattle.step.proofs.GoingLaws.{
-  Going,
-  Runs,
-  runs_on_lem,
-  runs_first,
-  turnable,
-  turned_by,
-  place_below,
-  nearness,
-  nearer,
-  start_lows,
-  finished,
-  first_come,
-}
+use Rattle.step.proofs.GoingLaws.{runs_on_lem, runs_first, turnable, turned_by, place_below, nearer, start_lows, finished, first_come}
 use Rattle.step.proofs.BeginLaws.{begun, begun_lows}
 use Rattle.step.proofs.turns.run_steps.Goals as goal
 

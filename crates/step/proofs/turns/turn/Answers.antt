@@ -3,12 +3,11 @@ use mathlib.Core.Bool.{true}
 use Rattle.basics.specs.Limits.{clock_limit}
 use Rattle.channel.specs.declared.Request.{Request}
 use mathlib.Core.Path.{◌≡◌, refl, sym, ap, ◌∙◌}
-use borrow.Author.Tests.{ne_eqb, ltb-false}
+use borrow.Author.Tests.{ne_eqb}
 use Prim.Native.Nat.{ℕ, ◌+◌}
 use lib.Dec.{ltb}
 use Rattle.step.specs.inner.Turns.{running_of}
 use Rattle.step.proofs.PutLaws.{turn_full, turn_grant, turn_rest, turn_cycles, lows_grant, lows_rest, lows_cycles}
-use borrow.Author.Rules.{rules}
 use Rattle.step.proofs.turns.turn.Goals as goal
 
 pub returns-then-is_full : goal.returns-then-is_full
