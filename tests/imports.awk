@@ -25,13 +25,13 @@ function code_words(text, seen) {
     gsub(/[^A-Za-z0-9_.]/, " ", text)
     heads(text, seen)
 }
-# An operator _+_ is used as +, or in a section as _+ or +_.
+# An operator ◌+◌ is used as +, or in a section as ◌+ or +◌.
 function is_used(name, seen,    parts, n, i, bare) {
     if (name in seen) return 1
-    if (name !~ /^_|_$/) return 0
-    bare = name; gsub(/^_|_$/, "", bare)
-    if (("_" bare) in seen || (bare "_") in seen) return 1
-    n = split(name, parts, "_")
+    if (name !~ /^◌|◌$/) return 0
+    bare = name; gsub(/^◌|◌$/, "", bare)
+    if (("◌" bare) in seen || (bare "◌") in seen) return 1
+    n = split(name, parts, "◌")
     for (i = 1; i <= n; i++) if (parts[i] != "" && !(parts[i] in seen)) return 0
     return 1
 }
@@ -46,7 +46,7 @@ function without_comment(line) {
 }
 # The text of the contracts, where the names of a `ghost use` are used.
 function clauses(text,    found, at, depth, c) {
-    while (match(text, /[^A-Za-z0-9_](requires|ensures|ghost) *[{]/)) {
+    while (match(text, /[^A-Za-z0-9_](requires|ensures|ghost)( +[a-z_0-9]+)?:? *[{]/)) {
         at = RSTART + RLENGTH; depth = 1
         for (start = at; depth > 0 && at <= length(text); at++) {
             c = substr(text, at, 1)
@@ -65,7 +65,7 @@ function items_of(statement, items,    text, n, i) {
     text = statement; sub(/^(ghost )?use +/, "", text); sub(/;.*/, "", text)
     if (text !~ /[{]/) { items[1] = text; return 1 }
     sub(/^[^{]*[{]/, "", text); sub(/}.*/, "", text)
-    gsub(/_,_/, "_\003_", text)
+    gsub(/◌,◌/, "◌\003◌", text)
     n = split(text, items, ",")
     for (i = 1; i <= n; i++) { gsub(/^ +| +$/, "", items[i]); gsub(/\003/, ",", items[i]) }
     if (n > 0 && items[n] == "") n--
@@ -75,7 +75,7 @@ function items_of(statement, items,    text, n, i) {
 function name_of(item) {
     if (item ~ / as /) { sub(/.* as +/, "", item); return item }
     sub(/.*::/, "", item)
-    if (item !~ /^[_[]/) sub(/.*\./, "", item)
+    if (item !~ /^(◌|[[])/) sub(/.*\./, "", item)
     return item
 }
 
