@@ -81,7 +81,8 @@ function name_of(item) {
 
 # ---- one file -------------------------------------------------------------
 
-BEGIN { is_code = file ~ /\.rt$/ }
+# A trait of std is used by the methods that it brings.
+BEGIN { is_code = file ~ /\.rt$/; n = split("Read Write BufRead Input Print Env", each, " "); for (i = 1; i <= n; i++) if (is_code) used[each[i]] = 1 }
 { lines[NR] = $0; line = without_comment($0) }
 !open && /^(ghost )?use / { open = 1; uses++; first[uses] = NR; statement[uses] = "" }
 open {
