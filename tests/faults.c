@@ -65,3 +65,9 @@ long write(int fd, const void *bytes, unsigned long size)
     }
     return syscall(WRITE, fd, bytes, size);
 }
+
+/* the C library's other name for it */
+long __write(int fd, const void *bytes, unsigned long size)
+{
+    return write(fd, bytes, size);
+}
