@@ -4,35 +4,31 @@
 .PHONY: run test compare bench prove clean lib install host
 SHEET = examples/whole.sheet
 N = 100000
-# proves and builds what is named, or all; what the prover said is shown where it fails
-proved = mkdir -p target && { tests/proving check $(1) >target/said || { cat target/said; false; }; }
 SEED = 1
 PREFIX = /usr/local
 to = $(DESTDIR)$(abspath $(PREFIX))
 archive = target/staticlib/liblobrinkas.a
-archived = $(call proved,lobrinkas) && { rt staticlib lobrinkas >target/said 2>&1 || { cat target/said; false; }; }
+archived = tests/archive
 # said where somebody meets the archive on a machine that can't run it
 elsewhere = case $$(uname -m) in x86_64) ;; *) echo "$(archive) is for x86-64 Linux, and this machine is $$(uname -m)" ;; esac
 
 run:
-	@$(call proved,sheetrun)
 	@tests/link sheetrun
 	@tests/run-program target/bin/sheetrun <$(SHEET)
 
+# what the prover said is shown where it fails
 prove:
-	@$(call proved,)
+	@mkdir -p target && { tests/proving check >target/said || { cat target/said; false; }; }
 
 test:
 	@tests/gate
 
 compare:
-	@$(call proved,sheetrun)
 	@tests/link sheetrun
 	@tests/compare $(N) $(SEED)
 
 bench:
-	@$(call proved,sheetrun benchrun)
-	@tests/link sheetrun
+	@tests/link sheetrun benchrun
 	@$(archived)
 	@bench/bench
 
@@ -60,4 +56,4 @@ host:
 	@tests/run-program target/bin/host
 
 clean:
-	rm -rf target
+	rm -rf target crates/*/out
