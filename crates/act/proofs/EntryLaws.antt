@@ -1,9 +1,8 @@
 -- No two entries share their letter and numbers. Assumes nothing.
 use mathlib.Core.Path.{◌≡◌, refl, ap}
 use lib.ListN.{length, drop}
+use Rattle.std.specs.Prelude.{None, Option, Some, ℕ}
 use Rattle.basics.proofs.SameLaws.{at, apart}
-use Rattle.act.specs.declared.Hold.{Hold}
-use Rattle.act.specs.declared.Hold.TheVariants.{Unasked, After}
 use Rattle.act.specs.declared.Ending.{Ending}
 use Rattle.act.specs.declared.Ending.TheVariants.{Kept, Released, Marked}
 use Rattle.act.specs.declared.CycleEntry.{CycleEntry}
@@ -11,11 +10,11 @@ use Rattle.act.specs.declared.Entry.{Entry}
 use Rattle.act.specs.declared.Entry.TheVariants.{Idle, Grant, Cycle, Release}
 use Rattle.act.specs.Entry.{ending_number, cycle_fields, hold_numbers, ending_hold, entry_numbers}
 
-pub one_hold : (a b : Hold) → hold_numbers a ≡ hold_numbers b → a ≡ b
-one_hold Unasked Unasked e = refl
-one_hold Unasked (After y) e = apart (ap length e) refl
-one_hold (After x) Unasked e = apart (ap length e) refl
-one_hold (After x) (After y) e = ap After (at 0 e)
+pub one_hold : (a b : Option ℕ) → hold_numbers a ≡ hold_numbers b → a ≡ b
+one_hold None None e = refl
+one_hold None (Some y) e = apart (ap length e) refl
+one_hold (Some x) None e = apart (ap length e) refl
+one_hold (Some x) (Some y) e = ap Some (at 0 e)
 
 pub one_ending : (a b : Ending) → ending_number a ≡ ending_number b → ending_hold a ≡ ending_hold b → a ≡ b
 one_ending Kept Kept n h = refl

@@ -1,19 +1,16 @@
 -- Document 01, "One step", "Granted, with a request": one cycle, the end of a transfer, the release.
-use Rattle.std.specs.Prelude.{ℕ, ◌+◌, ◌-◌, Bool, true, false, cond, not, ◌&&◌, ◌||◌, List, set, eqb}
+use Rattle.std.specs.Prelude.{ℕ, ◌+◌, ◌-◌, Bool, true, false, cond, not, ◌&&◌, ◌||◌, List, set, eqb, None, Option, Some}
 use Rattle.cycle.specs.Cycle.{narrower_of, cycle_length, transfer_time, is_transfer_end, master_lane, slave_lane}
 use Rattle.frame.specs.declared.Setup.{Setup}
 use Rattle.frame.specs.Allowance.{allowance_of, is_within}
 use Rattle.frame.specs.Rows.{has_burst, is_fair, has_linger, level_of}
 use Rattle.channel.specs.declared.Phase.TheVariants.{Arbitrating}
-use Rattle.channel.specs.declared.Asked.{Asked}
-use Rattle.channel.specs.declared.Asked.TheVariants.{Never, At}
 use Rattle.channel.specs.declared.Channel.{Channel}
 use Rattle.channel.specs.declared.Request.{Request}
 use Rattle.channel.specs.Channel.{no_request, with_request, changed}
 use Rattle.channel.specs.Line.{line_rule}
 use Rattle.channel.specs.Slave.{slave_of, start_of}
 use Rattle.act.specs.declared.Route.{Route}
-use Rattle.act.specs.declared.Hold.TheVariants.{Unasked, After}
 use Rattle.act.specs.declared.Ending.{Ending}
 use Rattle.act.specs.declared.Ending.TheVariants.{Kept, Released, Marked}
 use Rattle.act.specs.declared.CycleEntry.{CycleEntry}
@@ -87,25 +84,25 @@ unfoldable pub cycle_of : Route → Request → Cycle
 cycle_of route q = cycle_before route q (cycle_bytes route q) (rest_after q (cycle_bytes route q))
 
 -- "there is an asked time and either linger is off or the next transfer would end after asked time + 7,800"
-abbrev pub late_for : Route → Asked → ℕ → ℕ → Bool
-late_for route Never clock next = false
-late_for route (At t) clock next = not (has_linger route.options) || not (is_within route.allowed next clock t)
+abbrev pub late_for : Route → Option ℕ → ℕ → ℕ → Bool
+late_for route None clock next = false
+late_for route (Some t) clock next = not (has_linger route.options) || not (is_within route.allowed next clock t)
 
-unfoldable pub is_late : Route → Asked → ℕ → ℕ → Bool
+unfoldable pub is_late : Route → Option ℕ → ℕ → ℕ → Bool
 is_late route asked clock next = late_for route asked clock next
 
 -- "Nothing is released inside a transfer. At its end the owner releases when the request is done, or burst is off, or .."
-unfoldable pub is_leaving : Route → Asked → ℕ → Cycle → Bool
+unfoldable pub is_leaving : Route → Option ℕ → ℕ → Cycle → Bool
 is_leaving route asked clock c =
     c.ends && (eqb c.rest.left 0 || (not (has_burst route.options) || is_late route asked clock c.next))
 
 -- "A releasing owner that is fair, with an asked time, is marked inactive, its request done or not."
-abbrev pub released_by : ℕ → Asked → ℕ → Ending
-released_by options Never clock = Released Unasked
-released_by options (At t) clock = cond (is_fair options) (Marked (clock - t)) (Released (After (clock - t)))
+abbrev pub released_by : ℕ → Option ℕ → ℕ → Ending
+released_by options None clock = Released None
+released_by options (Some t) clock = cond (is_fair options) (Marked (clock - t)) (Released (Some (clock - t)))
 
 -- how a cycle ends, at the clock after it
-unfoldable pub ending_of : Route → Asked → ℕ → Cycle → Ending
+unfoldable pub ending_of : Route → Option ℕ → ℕ → Cycle → Ending
 ending_of route asked clock c = cond (is_leaving route asked clock c) (released_by route.options asked clock) Kept
 
 abbrev pub is_kept : Ending → Bool
@@ -124,7 +121,7 @@ clocked ch clock = changed ch ch.phase ch.asked ch.ever clock ch.inactive
 
 -- "The channel is then arbitrating."
 unfoldable pub freed : Channel → List Bool → Channel
-freed ch inactive = changed ch Arbitrating Never ch.ever ch.clock inactive
+freed ch inactive = changed ch Arbitrating None ch.ever ch.clock inactive
 
 abbrev pub marked_at : List Bool → ℕ → List Bool
 marked_at inactive l = set inactive l true

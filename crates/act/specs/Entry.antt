@@ -1,7 +1,5 @@
 -- Document 01, "One sheet, whole": a log entry in the paper's letter and numbers; and the hold, which its line does not show.
-use Rattle.std.specs.Prelude.{ℕ, List, [], ◌∷◌, ◌++◌}
-use Rattle.act.specs.declared.Hold.{Hold}
-use Rattle.act.specs.declared.Hold.TheVariants.{Unasked, After}
+use Rattle.std.specs.Prelude.{ℕ, List, [], ◌∷◌, ◌++◌, None, Option, Some}
 use Rattle.act.specs.declared.Ending.{Ending}
 use Rattle.act.specs.declared.Ending.TheVariants.{Kept, Released, Marked}
 use Rattle.act.specs.declared.CycleEntry.{CycleEntry}
@@ -34,9 +32,9 @@ fields_of (Cycle e) = cycle_fields e
 fields_of (Release clock level hold) = clock ∷ level ∷ []
 
 -- "at a release, the clock less the asked time or that there was none"
-abbrev pub hold_numbers : Hold → List ℕ
-hold_numbers Unasked = []
-hold_numbers (After time) = time ∷ []
+abbrev pub hold_numbers : Option ℕ → List ℕ
+hold_numbers None = []
+hold_numbers (Some time) = time ∷ []
 
 abbrev pub ending_hold : Ending → List ℕ
 ending_hold Kept = []

@@ -1,13 +1,9 @@
 -- Document 01, "One step": the grant, the release without a request, and the idle step.
-use Rattle.std.specs.Prelude.{ℕ, ◌+◌, ◌-◌, Bool, true, false}
+use Rattle.std.specs.Prelude.{ℕ, ◌+◌, ◌-◌, Bool, true, false, None, Option, Some}
 use Rattle.channel.specs.declared.Phase.TheVariants.{Granted}
-use Rattle.channel.specs.declared.Asked.{Asked}
-use Rattle.channel.specs.declared.Asked.TheVariants.{Never, At}
 use Rattle.channel.specs.declared.Channel.{Channel}
 use Rattle.channel.specs.Channel.{changed}
 use Rattle.channel.specs.Line.{line_rule}
-use Rattle.act.specs.declared.Hold.{Hold}
-use Rattle.act.specs.declared.Hold.TheVariants.{Unasked, After}
 use Rattle.act.specs.declared.Entry.TheVariants.{Idle, Grant, Release}
 use Rattle.act.specs.Cycle.{freed, Turned}
 
@@ -23,15 +19,15 @@ grant_clock ch = ch.clock + arbitration_time ch.ever
 
 -- "The winner is the owner, with no asked time until the line rule sets one."; it has now been granted
 unfoldable pub granted : Channel → ℕ → Channel
-granted ch winner = changed ch (Granted winner) Never true (grant_clock ch) ch.inactive
+granted ch winner = changed ch (Granted winner) None true (grant_clock ch) ch.inactive
 
 unfoldable pub grant_turn : Channel → ℕ → Turned
 grant_turn ch winner = record { channel = line_rule (granted ch winner); entry = Grant (grant_clock ch) winner }
 
 -- "the clock less the asked time or that there was none"
-abbrev pub hold_of : Asked → ℕ → Hold
-hold_of Never clock = Unasked
-hold_of (At t) clock = After (clock - t)
+abbrev pub hold_of : Option ℕ → ℕ → Option ℕ
+hold_of None clock = None
+hold_of (Some t) clock = Some (clock - t)
 
 -- "Active line: release, no time passes, 15 is not marked inactive."
 unfoldable pub leave_turn : Channel → ℕ → Turned

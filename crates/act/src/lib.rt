@@ -6,8 +6,8 @@ ghost use Rattle.std.specs.Prelude.{◌≡◌};
 ghost use Rattle.act.specs.Cycle.{route_of, released_by, is_kept, is_marked};
 ghost use Rattle.act.specs.Turn.{arbitration_time};
 
-use channel::{Asked, Request};
-use frame::{FoundSlave, Setup};
+use channel::Request;
+use frame::{NO_SLAVE, Setup};
 
 // Where the owner's bytes go: what its row and the slave's say, how long after its asked time an owner's transfers may go on,
 // and where the slave row's bytes start in the slave store (last, so that no room is left between the fields).
@@ -22,18 +22,11 @@ pub struct Route {
     pub start: usize,
 }
 
-// At a release: the clock less the asked time, or that there was none.
-#[derive(Clone, Copy)]
-pub enum Hold {
-    Unasked,
-    After(u32),
-}
-
 // How a cycle ends: the owner keeps the channel, releases it, or releases it and is marked inactive.
 #[derive(Clone, Copy)]
 pub enum Ending {
     Kept,
-    Released(Hold),
+    Released(Option<u32>),
     Marked(u32),
 }
 
@@ -55,52 +48,40 @@ pub enum Entry {
     Idle(u32),
     Grant(u32, u8),
     Cycle(CycleEntry),
-    Release(u32, u8, Hold),
+    Release(u32, u8, Option<u32>),
 }
 
 // The route of a level's request: one search finds the slave row and where its bytes start.
+#[tactic(auto, unfolding(crate::specs::Cycle::route_of, channel::specs::Slave::slave_of, channel::specs::Slave::start_of))]
 pub fn route_of(setup: Setup, owner: u32, request: Request) -> Route
     ensures { result ≡ route_of setup owner request }
 {
-    let levels = setup.levels;
-    let slaves = setup.slaves;
-    let row = frame::level_of(levels, owner);
-    let allowed = frame::allowance_of(setup);
-    let found = frame::slave_row(slaves, request.space, request.address, request.left);
-    match found {
-        FoundSlave::Missing => Route {
-            width: row.width,
-            options: row.options,
-            port: 0,
-            time: 0,
-            base: 0,
-            allowed: allowed,
-            start: 0,
-        },
-        FoundSlave::Row(slave, start) => Route {
-            width: row.width,
-            options: row.options,
-            port: slave.port,
-            time: slave.time,
-            base: slave.base,
-            allowed: allowed,
-            start: start,
-        },
+    let row = frame::level_of(setup.levels, owner);
+    let found = frame::slave_row(setup.slaves, request.space, request.address, request.left);
+    let (slave, start) = found.unwrap_or((NO_SLAVE, 0));
+    Route {
+        width: row.width,
+        options: row.options,
+        port: slave.port,
+        time: slave.time,
+        base: slave.base,
+        allowed: frame::allowance_of(setup),
+        start,
     }
 }
 
-// A releasing owner that is fair, with an asked time, is marked.
-pub fn released_by(options: u32, asked: Asked, clock: u32) -> Ending
+// A releasing owner that is fair, with an asked time, is marked. The options are the row's number, of which any may be handed in.
+pub fn released_by(options: u32, asked: Option<u32>, clock: u32) -> Ending
     ensures { result ≡ released_by options asked clock }
 {
     match asked {
-        Asked::Never => Ending::Released(Hold::Unasked),
-        Asked::At(t) => {
+        None => Ending::Released(None),
+        Some(t) => {
             let hold = basics::less(clock, t);
             if frame::is_fair(options) {
                 return Ending::Marked(hold);
             }
-            Ending::Released(Hold::After(hold))
+            Ending::Released(Some(hold))
         }
     }
 }
@@ -109,22 +90,14 @@ pub fn released_by(options: u32, asked: Asked, clock: u32) -> Ending
 pub fn is_kept(ending: Ending) -> bool
     ensures { result ≡ is_kept ending }
 {
-    match ending {
-        Ending::Kept => true,
-        Ending::Released(_) => false,
-        Ending::Marked(_) => false,
-    }
+    matches!(ending, Ending::Kept)
 }
 
 // The owner is marked inactive.
 pub fn is_marked(ending: Ending) -> bool
     ensures { result ≡ is_marked ending }
 {
-    match ending {
-        Ending::Kept => false,
-        Ending::Released(_) => false,
-        Ending::Marked(_) => true,
-    }
+    matches!(ending, Ending::Marked(_))
 }
 
 // How long an arbitration takes: the first after set-up 100 ns, and 30 more once the channel has been granted.

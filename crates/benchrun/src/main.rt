@@ -7,9 +7,8 @@
 ghost use Rattle.std.specs.Prelude.{◌≤◌, length, IfOk};
 
 use basics::PLACES;
-use channel::{Asked, Channel};
-use frame::{Order, Setup};
-use sheet::SheetAnswer;
+use channel::{Channel, Request};
+use frame::Setup;
 use sheetlist::Event;
 use std::env::FillError;
 use std::io;
@@ -17,10 +16,19 @@ use std::io::{Input, Read};
 use std::rt::Env;
 use tally::Tally;
 
+// The channel and the tally as the events go on. They and the set-up are handed on by value: behind a reference each call would
+// copy them first, and that would be measured too.
 #[derive(Clone, Copy)]
 struct Session {
     channel: Channel,
     tally: Tally,
+}
+
+fn fresh_session() -> Session {
+    Session {
+        channel: channel::fresh_channel(),
+        tally: tally::no_tally(),
+    }
 }
 
 // Up to `steps` steps, each by its own call.
@@ -38,10 +46,7 @@ fn single_steps(
         channel = next.channel;
         tally = next.tally;
     }
-    Session {
-        channel: channel,
-        tally: tally,
-    }
+    Session { channel, tally }
 }
 
 // Up to `steps` steps by one call.
@@ -52,135 +57,92 @@ fn whole_run(
     master: &mut [u8],
     steps: u32,
 ) -> Session {
-    let channel = session.channel;
-    let tally = session.tally;
-    let ran = step::run(setup, channel, tally, slave, master, steps);
-    let next = ran.channel;
-    let figures = ran.tally;
+    let ran = step::run(setup, session.channel, session.tally, slave, master, steps);
     Session {
-        channel: next,
-        tally: figures,
+        channel: ran.channel,
+        tally: ran.tally,
     }
 }
 
-fn take_steps(
-    setup: Setup,
-    session: Session,
-    slave: &mut [u8],
-    master: &mut [u8],
-    steps: u32,
+// What the events are gone through with: both stores, and whether each step is a call of its own.
+#[derive(Drop)]
+struct Job<'a> {
+    slave: &'a mut [u8],
+    master: &'a mut [u8],
     single: bool,
-) -> Session {
-    if single {
-        return single_steps(setup, session, slave, master, steps);
-    }
-    whole_run(setup, session, slave, master, steps)
 }
 
-fn take_post(setup: Setup, session: Session, order: Order) -> Session {
-    let channel = session.channel;
-    let tally = session.tally;
-    let judged = post::post(setup, channel, order);
-    let next = judged.channel;
-    Session {
-        channel: next,
-        tally: tally,
+impl Job<'_> {
+    fn take_steps(&mut self, setup: Setup, session: Session, steps: u32) -> Session {
+        if self.single {
+            return single_steps(setup, session, self.slave, self.master, steps);
+        }
+        whole_run(setup, session, self.slave, self.master, steps)
     }
-}
 
-fn take_event(
-    setup: Setup,
-    session: Session,
-    slave: &mut [u8],
-    master: &mut [u8],
-    event: Event,
-    single: bool,
-) -> Session {
-    match event {
-        Event::Steps(steps) => take_steps(setup, session, slave, master, steps, single),
-        Event::Post(order) => take_post(setup, session, order),
+    fn take_event(&mut self, setup: Setup, session: Session, event: Event) -> Session {
+        match event {
+            Event::Steps(steps) => self.take_steps(setup, session, steps),
+            Event::Post(order) => Session {
+                channel: post::post(setup, session.channel, order).channel,
+                ..session
+            },
+        }
     }
-}
 
-// The events of a valid list, one after the other, from a fresh channel.
-fn take_events(
-    setup: Setup,
-    list: &[u32],
-    slave: &mut [u8],
-    master: &mut [u8],
-    single: bool,
-) -> Session {
-    let mut session = Session {
-        channel: channel::fresh_channel(),
-        tally: tally::no_tally(),
-    };
-    let mut at = sheetlist::first_event(list);
-    for _ in 0..sheetlist::event_count(list) {
-        let event = sheetlist::event_at(list, at);
-        session = take_event(setup, session, slave, master, event, single);
-        at = sheetlist::next_event(list, at);
+    // The events of a valid list, one after the other, from a fresh channel.
+    fn take_events(&mut self, setup: Setup, list: &[u32]) -> Session {
+        let mut session = fresh_session();
+        let mut at = sheetlist::first_event(list);
+        for _ in 0..sheetlist::event_count(list) {
+            session = self.take_event(setup, session, sheetlist::event_at(list, at));
+            at = sheetlist::next_event(list, at);
+        }
+        session
     }
-    session
-}
 
-// The same events `times` times, over the same stores; what the last time left.
-fn take_rounds(
-    setup: Setup,
-    list: &[u32],
-    slave: &mut [u8],
-    master: &mut [u8],
-    times: u32,
-    single: bool,
-) -> Session {
-    let mut session = Session {
-        channel: channel::fresh_channel(),
-        tally: tally::no_tally(),
-    };
-    for _ in 0..times {
-        session = take_events(setup, list, slave, master, single);
+    // The same events `times` times, over the same stores; what the last time left.
+    fn take_rounds(&mut self, setup: Setup, list: &[u32], times: u32) -> Session {
+        let mut session = fresh_session();
+        for _ in 0..times {
+            session = self.take_events(setup, list);
+        }
+        session
     }
-    session
+
+    // The stores at the start, and a run of no steps on a fresh channel. That run is there so that `run` is called at two
+    // places: the compiler then keeps it a function of its own, as it is for whoever calls the library, and does not mix it
+    // into this program.
+    fn prepare(&mut self, setup: Setup) {
+        sheethost::fill_master(self.master);
+        sheethost::fill_slave(self.slave);
+        whole_run(setup, fresh_session(), self.slave, self.master, 0);
+    }
 }
 
 fn print_number(output: &impl Print, n: u64) -> io::Result<()> {
     println!(output; "{n}")
 }
 
-fn print_asked(output: &impl Print, asked: Asked) -> io::Result<()> {
+fn print_asked(output: &impl Print, asked: Option<u32>) -> io::Result<()> {
     match asked {
-        Asked::Never => println!(output; "not asked"),
-        Asked::At(t) => print_number(output, u64::from(t)),
+        None => println!(output; "not asked"),
+        Some(t) => print_number(output, u64::from(t)),
     }
 }
 
-fn print_level(
-    output: &impl Print,
-    inactive: bool,
-    direction: u32,
-    space: u32,
-    address: u32,
-    left: u32,
-    offset: u32,
-) -> io::Result<()> {
+fn print_level(output: &impl Print, inactive: bool, request: Request) -> io::Result<()> {
     print_number(output, u64::from(inactive))?;
-    print_number(output, u64::from(direction))?;
-    print_number(output, u64::from(space))?;
-    print_number(output, u64::from(address))?;
-    print_number(output, u64::from(left))?;
-    print_number(output, u64::from(offset))
+    print_number(output, u64::from(request.direction))?;
+    print_number(output, u64::from(request.space))?;
+    print_number(output, u64::from(request.address))?;
+    print_number(output, u64::from(request.left))?;
+    print_number(output, u64::from(request.offset))
 }
 
 fn print_levels(output: &impl Print, channel: Channel) -> io::Result<()> {
     for i in 0..PLACES {
-        print_level(
-            output,
-            channel.inactive[i],
-            channel.direction[i],
-            channel.space[i],
-            channel.address[i],
-            channel.left[i],
-            channel.offset[i],
-        )?;
+        print_level(output, channel.inactive[i], channel::request_of(channel, i))?;
     }
     Ok(())
 }
@@ -199,90 +161,35 @@ fn print_tally(output: &impl Print, tally: Tally) -> io::Result<()> {
     print_number(output, u64::from(tally.hold))
 }
 
-// The stores at the start, and a run of no steps on a fresh channel. That run is there so that `run` is called at two
-// places: the compiler then keeps it a function of its own, as it is for whoever calls the library, and does not mix it
-// into this program.
-fn prepare(setup: Setup, slave: &mut [u8], master: &mut [u8]) {
-    sheethost::fill_master(master);
-    sheethost::fill_slave(slave);
-    let fresh = Session {
-        channel: channel::fresh_channel(),
-        tally: tally::no_tally(),
+fn run_list(output: &impl Print, list: &[u32], times: u32, single: bool) -> io::Result<()> {
+    let setup = sheetlist::setup_of(list, 4096);
+    let mut slave = [0u8; 65536];
+    let mut master = [0u8; 4096];
+    let Some(slave) = slave.get_mut(..frame::slave_store_length(setup.slaves)) else {
+        return Ok(());
     };
-    whole_run(setup, fresh, slave, master, 0);
-}
-
-fn run_over(
-    output: &impl Print,
-    setup: Setup,
-    list: &[u32],
-    slave: &mut [u8],
-    master: &mut [u8],
-    times: u32,
-    single: bool,
-) -> io::Result<()> {
-    prepare(setup, slave, master);
-    let session = take_rounds(setup, list, slave, master, times, single);
+    let mut job = Job {
+        slave,
+        master: &mut master,
+        single,
+    };
+    job.prepare(setup);
+    let session = job.take_rounds(setup, list, times);
     print_channel(output, session.channel)?;
     print_tally(output, session.tally)?;
-    print_number(output, sheethost::digest(slave))?;
-    print_number(output, sheethost::digest(master))
+    print_number(output, sheethost::digest(job.slave))?;
+    print_number(output, sheethost::digest(job.master))
 }
 
-fn run_list(
-    output: &impl Print,
-    list: &[u32],
-    slave: &mut [u8],
-    master: &mut [u8],
-    times: u32,
-    single: bool,
-) -> io::Result<()> {
-    let setup = sheetlist::setup_of(list, 4096);
-    let slaves = setup.slaves;
-    let size = frame::slave_store_length(slaves);
-    if slave.len() < size {
-        return Ok(());
-    }
-    run_over(
-        output,
-        setup,
-        list,
-        &mut slave[..size],
-        master,
-        times,
-        single,
-    )
-}
-
-// The numbers of the sheet are the first `count` of the list.
-fn run_first(
-    output: &impl Print,
-    list: &[u32],
-    count: usize,
-    slave: &mut [u8],
-    master: &mut [u8],
-    times: u32,
-    single: bool,
-) -> io::Result<()> {
-    if list.len() < count {
-        return Ok(());
-    }
-    run_list(output, &list[..count], slave, master, times, single)
-}
-
-fn run_sheet(
-    output: &impl Print,
-    sheet: &[u8],
-    slave: &mut [u8],
-    master: &mut [u8],
-    times: u32,
-    single: bool,
-) -> io::Result<()> {
+fn run_sheet(output: &impl Print, sheet: &[u8], times: u32, single: bool) -> io::Result<()> {
     let mut list = [0u32; 7300];
-    let answer = sheet::read_sheet(sheet, &mut list);
-    match answer {
-        SheetAnswer::Refused(_, _) => println!(output; "no sheet"),
-        SheetAnswer::Done(count) => run_first(output, &list, count, slave, master, times, single),
+    let Ok(count) = sheet::read_sheet(sheet, &mut list) else {
+        return println!(output; "no sheet");
+    };
+    // the numbers of the sheet are the first `count` of the list
+    match list.get(..count) {
+        Some(list) => run_list(output, list, times, single),
+        None => Ok(()),
     }
 }
 
@@ -299,20 +206,11 @@ fn read_full(input: &mut impl Read, buf: &mut [u8]) -> io::Result<usize>
 fn main(rt: HostRuntime) -> io::Result<()> {
     let mut header = [0u8; 4];
     let mut input = [0u8; 65536];
-    let mut slave = [0u8; 65536];
-    let mut master = [0u8; 4096];
     let single = !matches!(rt.arg(1, &mut [0u8; 16]), Err(FillError::NotPresent));
     let mut reader = rt.reader();
     if read_full(&mut reader, &mut header)? < 4 {
         return Ok(());
     }
     let got = read_full(&mut reader, &mut input)?;
-    run_sheet(
-        &rt,
-        &input[..got],
-        &mut slave,
-        &mut master,
-        sheethost::four_bytes(header),
-        single,
-    )
+    run_sheet(&rt, &input[..got], sheethost::four_bytes(header), single)
 }

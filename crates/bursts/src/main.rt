@@ -7,18 +7,13 @@ ghost use Rattle.step.specs.Run.{world, run_of};
 
 use basics::{ROWS_MOST, SYSTEM_MASTER_U32};
 use channel::Channel;
-use frame::{LevelRow, LevelRows, Order, Setup, SlaveRow, SlaveRows};
+use frame::{LevelRow, LevelRows, NO_LEVEL, NO_SLAVE, Order, Setup, SlaveRow, SlaveRows};
 use std::io::Write;
 use std::{io, str};
 use tally::Tally;
 
 fn levels() -> LevelRows {
-    let none = LevelRow {
-        level: 0,
-        width: 0,
-        options: 0,
-    };
-    let mut rows = [none; ROWS_MOST];
+    let mut rows = [NO_LEVEL; ROWS_MOST];
     // a digitiser that bursts and lingers, a counter that waits, and the system master
     rows[0] = LevelRow {
         level: 3,
@@ -35,51 +30,36 @@ fn levels() -> LevelRows {
         width: 4,
         options: 0,
     };
-    LevelRows {
-        rows: rows,
-        count: 3,
-    }
+    LevelRows { rows, count: 3 }
 }
 
 fn slaves(port: u32, time: u32) -> SlaveRows {
-    let none = SlaveRow {
-        space: 0,
-        base: 0,
-        length: 0,
-        port: 0,
-        time: 0,
-    };
-    let mut rows = [none; ROWS_MOST];
+    let mut rows = [NO_SLAVE; ROWS_MOST];
     rows[0] = SlaveRow {
         space: 1,
         base: 4096,
         length: 8192,
-        port: port,
-        time: time,
+        port,
+        time,
     };
-    SlaveRows {
-        rows: rows,
-        count: 1,
-    }
+    SlaveRows { rows, count: 1 }
 }
 
 fn frame_with(port: u32, time: u32) -> Setup {
-    let levels = levels();
-    let slaves = slaves(port, time);
     Setup {
-        levels: levels,
-        slaves: slaves,
+        levels: levels(),
+        slaves: slaves(port, time),
         master: 4096,
     }
 }
 
 fn order(level: u32, address: u32, length: u32) -> Order {
     Order {
-        level: level,
+        level,
         direction: 1,
         space: 1,
-        address: address,
-        length: length,
+        address,
+        length,
         offset: 0,
     }
 }
@@ -144,7 +124,7 @@ fn show_all(output: &impl Print) -> io::Result<()> {
     let setup = frame_with(4, 200);
     let fresh = channel::set_up(setup).channel;
     let verdict = post::post(setup, fresh, order(3, 4294967295, 4096)).verdict;
-    print_pair(output, refusal::verdict_number(verdict) as u32, 0)
+    print_pair(output, u32::from(refusal::verdict_number(verdict)), 0)
 }
 
 // Why the output could not be written, in the system's own words: an error's text without the number that std writes after it.

@@ -8,13 +8,13 @@ use native.Mathlib.Omega.{arith}
 use borrow.Author.Tests.{eqb-false, ne_eqb, not-true}
 use lib.ListN.{length, replicate, get_or-replicate, length-replicate}
 use lib.Seq.{ext_get_or}
+use Rattle.std.specs.Prelude.{None, Some}
 use Rattle.basics.specs.Limits.{places, no_owner, system_master}
 use Rattle.basics.specs.Scan.{any_below}
 use Rattle.basics.proofs.ScanLaws.{any_hit, any_ext, any_some, any_mono, any_none, first_least, first_finds, first_default}
 use Rattle.basics.proofs.Tests.{by_test, and_left, and_right}
 use Rattle.channel.specs.declared.Phase.{Phase}
 use Rattle.channel.specs.declared.Phase.TheVariants.{Arbitrating, Granted}
-use Rattle.channel.specs.declared.Asked.TheVariants.{Never, At}
 use Rattle.channel.specs.declared.Channel.{Channel}
 use Rattle.channel.specs.Channel.{owner_of, has_request}
 use Rattle.channel.specs.Line.{is_inactive, waits, drives, line_active, line, asks, others_ask, clear_marks, set_asked, line_rule, winner, winner_from}
@@ -116,12 +116,12 @@ unfolding winner_from
 winner_lowest left inactive l h e = first_least (waits left inactive) 0 places system_master l (omega arith) (omega (arith, h)) e
 
 -- an asked time stays while the channel is granted: the 7,800 ns begin once
-pub asked_stays : (ch : Channel) (o t : ℕ) → ch.phase ≡ Granted o → ch.asked ≡ At t → (line_rule ch).asked ≡ At t
+pub asked_stays : (ch : Channel) (o t : ℕ) → ch.phase ≡ Granted o → ch.asked ≡ Some t → (line_rule ch).asked ≡ Some t
 unfolding set_asked clear_marks
 asked_stays ch o t p a = rw (p, a)
 
 -- and it begins with an active line alone, not with the grant
-pub unasked : (ch : Channel) (o : ℕ) → ch.phase ≡ Granted o → ch.asked ≡ Never → line ch ≡ false → (set_asked ch).asked ≡ Never
+pub unasked : (ch : Channel) (o : ℕ) → ch.phase ≡ Granted o → ch.asked ≡ None → line ch ≡ false → (set_asked ch).asked ≡ None
 unfolding set_asked
 unasked ch o p a f = rw (f, p, a)
 

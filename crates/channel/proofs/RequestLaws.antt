@@ -6,10 +6,10 @@ use mathlib.Core.List.{List}
 use native.Mathlib.Omega.{arith}
 use lib.ListN.{length, length-set, get_or-eq_default}
 use lib.Seq.{set_out, get_or-set_same, get_or-set_other}
+use Rattle.std.specs.Prelude.{Option}
 use Rattle.basics.specs.Limits.{places}
 use Rattle.basics.proofs.Tests.{by_test}
 use Rattle.channel.specs.declared.Phase.{Phase}
-use Rattle.channel.specs.declared.Asked.{Asked}
 use Rattle.channel.specs.declared.Channel.{Channel}
 use Rattle.channel.specs.declared.Request.{Request}
 use Rattle.channel.specs.Channel.{request_of, no_request, with_request, changed, fresh_channel, Shaped}
@@ -93,7 +93,7 @@ with_shaped ch l q s =
     }
 
 -- a changed channel has the shape where its marks have
-pub changed_shaped : (ch : Channel) (phase : Phase) (asked : Asked) (ever : Bool) (clock : ℕ) (marks : List Bool) → length marks ≡ places → Shaped ch
+pub changed_shaped : (ch : Channel) (phase : Phase) (asked : Option ℕ) (ever : Bool) (clock : ℕ) (marks : List Bool) → length marks ≡ places → Shaped ch
     → Shaped (changed ch phase asked ever clock marks)
 changed_shaped ch phase asked ever clock marks n s =
     record { inactive = n; direction = s.direction; space = s.space; address = s.address; left = s.left; offset = s.offset }

@@ -1,14 +1,11 @@
 -- Document 01, "The frame", its last part: requests, the phase, and the channel after set-up.
-use Rattle.std.specs.Prelude.{ℕ, ◌≡◌, Bool, true, false, not, List, [], ◌∷◌, length, get_or, set, replicate, eqb}
-use Rattle.refusal.specs.Refusal.{refused_by}
-use Rattle.refusal.specs.declared.Verdict.TheVariants.{Accepted}
+use Rattle.std.specs.Prelude.{ℕ, ◌≡◌, Bool, true, false, not, List, [], ◌∷◌, length, get_or, set, replicate, eqb, None, Option}
+use Rattle.refusal.specs.Refusal.{accepted, refused_by}
 use Rattle.basics.specs.Limits.{places, no_owner}
 use Rattle.frame.specs.declared.Setup.{Setup}
 use Rattle.frame.specs.Frame.{is_framed}
 use Rattle.channel.specs.declared.Phase.{Phase}
 use Rattle.channel.specs.declared.Phase.TheVariants.{Arbitrating, Granted}
-use Rattle.channel.specs.declared.Asked.{Asked}
-use Rattle.channel.specs.declared.Asked.TheVariants.{Never}
 use Rattle.channel.specs.declared.Channel.{Channel}
 use Rattle.channel.specs.declared.Request.{Request}
 use Rattle.channel.specs.declared.Judged.{Judged}
@@ -64,7 +61,7 @@ with_request ch l q =
     }
 
 -- the channel with another phase, asked time, clock and marks, and whether it was ever granted; its requests stay
-abbrev pub changed : Channel → Phase → Asked → Bool → ℕ → List Bool → Channel
+abbrev pub changed : Channel → Phase → Option ℕ → Bool → ℕ → List Bool → Channel
 changed ch phase asked ever clock inactive =
     record {
       phase = phase;
@@ -85,7 +82,7 @@ abbrev pub fresh_channel : Channel
 fresh_channel =
     record {
       phase = Arbitrating;
-      asked = Never;
+      asked = None;
       ever = false;
       clock = 0;
       inactive = replicate places false;
@@ -98,7 +95,7 @@ fresh_channel =
 
 -- "9: set-up ..: the set-up breaks the frame"; "A refused set-up gives the fresh channel"
 unfoldable pub set_up : Setup → Judged
-set_up setup = record { channel = fresh_channel; verdict = refused_by ((9, not (is_framed setup)) ∷ []) Accepted }
+set_up setup = record { channel = fresh_channel; verdict = refused_by ((9, not (is_framed setup)) ∷ []) accepted }
 
 -- For the laws only. Every channel of the program: its arrays have a place for each level
 pub record Shaped (ch : Channel) : Type 0 where

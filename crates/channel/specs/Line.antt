@@ -1,11 +1,9 @@
 -- Document 01, "The line rule", and the winner of "One step".
-use Rattle.std.specs.Prelude.{ℕ, ◌-◌, Bool, false, cond, not, ◌&&◌, List, get_or, replicate, eqb}
+use Rattle.std.specs.Prelude.{ℕ, ◌-◌, Bool, false, cond, not, ◌&&◌, List, get_or, replicate, eqb, None, Option, Some}
 use Rattle.basics.specs.Limits.{places, system_master}
 use Rattle.basics.specs.Scan.{any_below, first_from}
 use Rattle.channel.specs.declared.Phase.{Phase}
 use Rattle.channel.specs.declared.Phase.TheVariants.{Arbitrating, Granted}
-use Rattle.channel.specs.declared.Asked.{Asked}
-use Rattle.channel.specs.declared.Asked.TheVariants.{Never, At}
 use Rattle.channel.specs.declared.Channel.{Channel}
 use Rattle.channel.specs.Channel.{owner_of, has_request, changed}
 
@@ -41,14 +39,14 @@ clear_marks ch =
     changed ch ch.phase ch.asked ch.ever ch.clock (cond (line ch) ch.inactive (replicate places false))
 
 -- "an active line .. sets the asked time to the clock"
-abbrev pub asked_if : Bool → ℕ → Asked
-asked_if active clock = cond active (At clock) Never
+abbrev pub asked_if : Bool → ℕ → Option ℕ
+asked_if active clock = cond active (Some clock) None
 
 -- "2. While granted, an active line with no asked time sets the asked time to the clock. While arbitrating there is no asked time."
-abbrev pub asked_now : Phase → Asked → Bool → ℕ → Asked
-asked_now Arbitrating asked active clock = Never
-asked_now (Granted owner) (At t) active clock = At t
-asked_now (Granted owner) Never active clock = asked_if active clock
+abbrev pub asked_now : Phase → Option ℕ → Bool → ℕ → Option ℕ
+asked_now Arbitrating asked active clock = None
+asked_now (Granted owner) (Some t) active clock = Some t
+asked_now (Granted owner) None active clock = asked_if active clock
 
 unfoldable pub set_asked : Channel → Channel
 set_asked ch =

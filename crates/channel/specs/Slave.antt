@@ -1,13 +1,12 @@
 -- The slave row of a request: the one that wholly holds what is left of it.
-use Rattle.std.specs.Prelude.{ℕ}
+use Rattle.std.specs.Prelude.{ℕ, Option}
 use Rattle.frame.specs.declared.SlaveRow.{SlaveRow}
 use Rattle.frame.specs.declared.SlaveRows.{SlaveRows}
-use Rattle.frame.specs.declared.FoundSlave.{FoundSlave}
 use Rattle.frame.specs.Find.{slave_row}
 use Rattle.frame.specs.Rows.{slave_or, start_or}
 use Rattle.channel.specs.declared.Request.{Request}
 
-abbrev pub slave_for : SlaveRows → Request → FoundSlave
+abbrev pub slave_for : SlaveRows → Request → Option (SlaveRow × ℕ)
 slave_for slaves q = slave_row slaves q.space q.address q.left
 
 -- the row; where there is none a row of zeros

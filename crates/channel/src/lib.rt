@@ -8,21 +8,14 @@ ghost use Rattle.channel.specs.Line.{line_active, winner_from, clear_marks, aske
 ghost use Rattle.channel.specs.Slave.{slave_of};
 
 use basics::{NO_OWNER, PLACES, PLACES_U8, SYSTEM_MASTER};
-use frame::{FoundSlave, Setup, SlaveRow, SlaveRows};
-use refusal::{Refusal, Verdict};
+use frame::{NO_SLAVE, Setup, SlaveRow, SlaveRows};
+use refusal::Refusal;
 
-// The channel is arbitrating, or granted to one level.
+// The channel is arbitrating, or granted to one level. An Option of the owner would say the same, but not which of the two phases of document 01 None is.
 #[derive(Clone, Copy)]
 pub enum Phase {
     Arbitrating,
     Granted(u8),
-}
-
-// While granted, perhaps an asked time. A time of 0 is not the same as none.
-#[derive(Clone, Copy)]
-pub enum Asked {
-    Never,
-    At(u32),
 }
 
 // `ever` says whether the channel has ever been granted: the first arbitration after set-up is shorter. The request arrays are
@@ -30,7 +23,7 @@ pub enum Asked {
 #[derive(Clone, Copy)]
 pub struct Channel {
     pub phase: Phase,
-    pub asked: Asked,
+    pub asked: Option<u32>,
     pub ever: bool,
     pub clock: u32,
     pub inactive: [bool; PLACES],
@@ -41,7 +34,8 @@ pub struct Channel {
     pub offset: [u32; PLACES],
 }
 
-// What is left of a request, or a request that is posted.
+// What is left of a request, or a request that is posted. Direction and space are numbers, as any may be handed in: of a channel that has others than 0 and 1 it is
+// said that it is unsound.
 #[derive(Clone, Copy)]
 pub struct Request {
     pub direction: u32,
@@ -51,14 +45,15 @@ pub struct Request {
     pub offset: u32,
 }
 
-// A channel that a call gives back, and whether the call was accepted.
+// A channel that a call gives back, and whether the call was accepted. A refused one has a channel too: `set_up` gives the one after set-up, and `post` the one that
+// it got, so that a Result of a channel would say less.
 #[derive(Clone, Copy)]
 pub struct Judged {
     pub channel: Channel,
-    pub verdict: Verdict,
+    pub verdict: Result<(), Refusal>,
 }
 
-// The owner's level; while arbitrating `NO_OWNER`, which is no level.
+// The owner's level; while arbitrating `NO_OWNER`, which is no level, so that whoever compares with a level needs no case of its own.
 pub fn owner_of(phase: Phase) -> u8
     ensures { result ≡ owner_of phase }
 {
@@ -74,11 +69,11 @@ pub fn owner_place(phase: Phase) -> usize
 {
     match phase {
         Phase::Arbitrating => 0,
-        Phase::Granted(owner) => owner as usize,
+        Phase::Granted(owner) => usize::from(owner),
     }
 }
 
-// What stands in the place of a level without a request.
+// What stands in the place of a level without a request: zeros, and so no Option of a request.
 pub fn no_request() -> Request
     ensures { result ≡ no_request }
 {
@@ -124,59 +119,49 @@ pub fn with_request(channel: Channel, level: usize, request: Request) -> Channel
 }
 
 // The slave row of a request, or a row of zeros.
+#[tactic(auto, unfolding(crate::specs::Slave::slave_of))]
 pub fn slave_of(slaves: SlaveRows, request: Request) -> SlaveRow
     ensures { result ≡ slave_of slaves request }
 {
-    let found = frame::slave_row(slaves, request.space, request.address, request.left);
-    match found {
-        FoundSlave::Missing => SlaveRow {
-            space: 0,
-            base: 0,
-            length: 0,
-            port: 0,
-            time: 0,
-        },
-        FoundSlave::Row(row, _) => row,
+    match frame::slave_row(slaves, request.space, request.address, request.left) {
+        None => NO_SLAVE,
+        Some((row, _)) => row,
     }
 }
 
 // -PREEMPT: some level other than the owner has an open request and isn't inactive.
-pub fn line_active<'a>(left: &'a [u32; PLACES], inactive: &'a [bool; PLACES], phase: Phase) -> bool
+pub fn line_active(left: &[u32; PLACES], inactive: &[bool; PLACES], phase: Phase) -> bool
     ensures { result ≡ line_active left.now inactive.now phase }
 {
     let owner = owner_of(phase) as usize;
-    let mut level: usize = 0;
-    while level < PLACES {
+    for level in 0..PLACES {
         if (left[level] != 0) & (!inactive[level] & (level != owner)) {
             return true;
         }
-        level += 1;
     }
     false
 }
 
 // The lowest-numbered level from `low` on with an open request and no inactive mark; with none, 15. From 0 on it is the winner
 // of an arbitration, and so it is from a level on below which nobody waits.
-pub fn winner_from<'a>(left: &'a [u32; PLACES], inactive: &'a [bool; PLACES], low: u8) -> u8
+pub fn winner_from(left: &[u32; PLACES], inactive: &[bool; PLACES], low: u8) -> u8
     ensures { result ≡ winner_from left.now inactive.now low }
 {
-    let mut level: u8 = low;
-    while level < PLACES_U8 {
+    for level in low..PLACES_U8 {
         let at = level as usize;
         if (left[at] != 0) & !inactive[at] {
             return level;
         }
-        level += 1;
     }
     SYSTEM_MASTER
 }
 
 // Line rule 1: if the line is not active, every inactive mark is removed.
+#[tactic(auto, unfolding(crate::specs::Line::clear_marks))]
 fn clear_marks(channel: Channel) -> Channel
     ensures { result ≡ clear_marks channel }
 {
-    let phase = channel.phase;
-    if line_active(&channel.left, &channel.inactive, phase) {
+    if line_active(&channel.left, &channel.inactive, channel.phase) {
         return channel;
     }
     let mut next = channel;
@@ -185,52 +170,30 @@ fn clear_marks(channel: Channel) -> Channel
 }
 
 // An active line sets the asked time to the clock.
-pub fn asked_if(active: bool, clock: u32) -> Asked
+pub fn asked_if(active: bool, clock: u32) -> Option<u32>
     ensures { result ≡ asked_if active clock }
 {
-    if active {
-        return Asked::At(clock);
-    }
-    Asked::Never
+    if active { Some(clock) } else { None }
 }
 
 // Line rule 2: while granted, an active line with no asked time sets it to the clock; while arbitrating there is none.
-fn asked_now(phase: Phase, asked: Asked, active: bool, clock: u32) -> Asked
+fn asked_now(phase: Phase, asked: Option<u32>, active: bool, clock: u32) -> Option<u32>
     ensures { result ≡ asked_now phase asked active clock }
 {
     match phase {
-        Phase::Arbitrating => Asked::Never,
-        Phase::Granted(_) => match asked {
-            Asked::At(t) => Asked::At(t),
-            Asked::Never => asked_if(active, clock),
-        },
+        Phase::Arbitrating => None,
+        Phase::Granted(_) => asked.or(asked_if(active, clock)),
     }
 }
 
+#[tactic(auto, unfolding(crate::specs::Line::set_asked))]
 fn set_asked(channel: Channel) -> Channel
     ensures { result ≡ set_asked channel }
 {
-    let phase = channel.phase;
-    let asked = channel.asked;
-    let active = line_active(&channel.left, &channel.inactive, phase);
-    let next = asked_now(phase, asked, active, channel.clock);
-    let inactive = channel.inactive;
-    let direction = channel.direction;
-    let space = channel.space;
-    let address = channel.address;
-    let left = channel.left;
-    let offset = channel.offset;
+    let active = line_active(&channel.left, &channel.inactive, channel.phase);
     Channel {
-        phase: phase,
-        asked: next,
-        ever: channel.ever,
-        clock: channel.clock,
-        inactive: inactive,
-        direction: direction,
-        space: space,
-        address: address,
-        left: left,
-        offset: offset,
+        asked: asked_now(channel.phase, channel.asked, active, channel.clock),
+        ..channel
     }
 }
 
@@ -247,7 +210,7 @@ pub fn fresh_channel() -> Channel
 {
     Channel {
         phase: Phase::Arbitrating,
-        asked: Asked::Never,
+        asked: None,
         ever: false,
         clock: 0,
         inactive: [false; PLACES],
@@ -260,19 +223,15 @@ pub fn fresh_channel() -> Channel
 }
 
 // The set-up call: the fresh channel, and whether the set-up keeps the frame.
+#[tactic(auto, unfolding(crate::specs::Channel::set_up))]
 pub fn set_up(setup: Setup) -> Judged
     ensures { result ≡ set_up setup }
 {
     let channel = fresh_channel();
-    if frame::is_framed(setup) {
-        Judged {
-            channel: channel,
-            verdict: Verdict::Accepted,
-        }
+    let verdict = if frame::is_framed(setup) {
+        Ok(())
     } else {
-        Judged {
-            channel: channel,
-            verdict: Verdict::Refused(Refusal::Unsound),
-        }
-    }
+        Err(Refusal::Unsound)
+    };
+    Judged { channel, verdict }
 }

@@ -8,13 +8,12 @@ use native.Mathlib.Omega.{arith}
 use borrow.Author.Tests.{leb-true, eqb-true, eq-eqb}
 use lib.ListN.{length, get_or}
 use lib.Dec.{eqb}
+use Rattle.std.specs.Prelude.{None, Option, Some}
 use Rattle.basics.proofs.Tests.{by_test}
 use Rattle.frame.specs.Frame.{is_framed}
 use Rattle.frame.specs.declared.Setup.{Setup}
 use Rattle.channel.specs.declared.Phase.{Phase}
 use Rattle.channel.specs.declared.Phase.TheVariants.{Arbitrating, Granted}
-use Rattle.channel.specs.declared.Asked.{Asked}
-use Rattle.channel.specs.declared.Asked.TheVariants.{Never, At}
 use Rattle.channel.specs.declared.Channel.{Channel}
 use Rattle.channel.specs.Channel.{request_of, with_request, Shaped}
 use Rattle.channel.specs.Line.{line, others_ask, clear_marks, asked_now, set_asked, line_rule}
@@ -55,11 +54,11 @@ asked_within setup ch o t i =
     (λ n. omega (arith, leb-true _ (t + allowance_of setup) (rw n at i.kept)))
 
 -- what the line rule makes of the asked time is what the history notes of the channel after it
-now_first : (p : Phase) (a : Asked) (active : Bool) (clock : ℕ) (ch : Channel) → active ≡ others_ask ch → clock ≡ ch.clock
+now_first : (p : Phase) (a : Option ℕ) (active : Bool) (clock : ℕ) (ch : Channel) → active ≡ others_ask ch → clock ≡ ch.clock
     → first_in p (asked_now p a active clock) ≡ noted p (first_in p a) ch
 now_first Arbitrating a active clock ch e f = refl
-now_first (Granted o) (At t) active clock ch e f = rw (eq-eqb o o refl)
-now_first (Granted o) Never active clock ch e f = rw (← e, ← f) (by_test active (λ t. rw t) (λ n. rw n))
+now_first (Granted o) (Some t) active clock ch e f = rw (eq-eqb o o refl)
+now_first (Granted o) None active clock ch e f = rw (← e, ← f) (by_test active (λ t. rw t) (λ n. rw n))
 
 cleared_line : (ch : Channel) → line (clear_marks ch) ≡ others_ask ch
 cleared_line ch = sym (line_asked (clear_marks ch)) ∙ line_after ch
@@ -75,11 +74,11 @@ rule_first ch =
     now_first ch.phase ch.asked (line (clear_marks ch)) ch.clock (line_rule ch) (cleared_line ch ∙ sym (rule_others ch)) refl
 
 -- where nothing changes, nothing is noted
-same_noted : (setup : Setup) (ch : Channel) → Shaped ch → Sound setup ch → (p : Phase) (a : Asked) → ch.phase ≡ p → ch.asked ≡ a
+same_noted : (setup : Setup) (ch : Channel) → Shaped ch → Sound setup ch → (p : Phase) (a : Option ℕ) → ch.phase ≡ p → ch.asked ≡ a
     → first_in p a ≡ noted p (first_in p a) ch
 same_noted setup ch k s Arbitrating a e f = refl
-same_noted setup ch k s (Granted o) (At t) e f = rw (eq-eqb o o refl)
-same_noted setup ch k s (Granted o) Never e f = rw (sym (line_others setup ch k s) ∙ s.quiet o e f)
+same_noted setup ch k s (Granted o) (Some t) e f = rw (eq-eqb o o refl)
+same_noted setup ch k s (Granted o) None e f = rw (sym (line_others setup ch k s) ∙ s.quiet o e f)
 
 same_first : (setup : Setup) (ch : Channel) → Shaped ch → Sound setup ch → first_of ch ≡ first_after (first_of ch) ch
 same_first setup ch k s = same_noted setup ch k s ch.phase ch.asked refl refl
@@ -190,10 +189,10 @@ abbrev clock_noted : First → ℕ
 clock_noted nobody = 0
 clock_noted (since o t) = t
 
-since_asked : (p : Phase) (a : Asked) (o t : ℕ) → first_in p a ≡ since o t → (p ≡ Granted o) × (a ≡ At t)
+since_asked : (p : Phase) (a : Option ℕ) (o t : ℕ) → first_in p a ≡ since o t → (p ≡ Granted o) × (a ≡ Some t)
 since_asked Arbitrating a o t e = nobody_not e
-since_asked (Granted q) Never o t e = nobody_not e
-since_asked (Granted q) (At u) o t e = (ap (λ (f : First). Granted (owner_noted f)) e, ap (λ (f : First). At (clock_noted f)) e)
+since_asked (Granted q) None o t e = nobody_not e
+since_asked (Granted q) (Some u) o t e = (ap (λ (f : First). Granted (owner_noted f)) e, ap (λ (f : First). Some (clock_noted f)) e)
 
 cycle_within : (setup : Setup) (ch : Channel) (o t : ℕ) (c : Cycle) → Takes setup o (request_of ch o) c → InTime setup ch o t
     → eqb (get_or ch.left o 0) 0 ≡ false → ch.clock + c.time ≤ t + allowance_of setup

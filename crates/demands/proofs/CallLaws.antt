@@ -6,20 +6,17 @@ use mathlib.Core.List.{List, [], ◌∷◌, ◌++◌}
 use native.Mathlib.Omega.{arith}
 use lib.ListN.{length, replicate}
 use lib.Dec.{ltb}
+use Rattle.std.specs.Prelude.{Err, Ok, Result}
 use Rattle.basics.specs.Limits.{steps_most}
 use Rattle.basics.proofs.Tests.{by_test}
 use Rattle.refusal.specs.declared.Refusal.{Refusal}
 use Rattle.refusal.specs.Refusal.{refusal_by}
-use Rattle.refusal.specs.declared.Verdict.{Verdict}
-use Rattle.refusal.specs.declared.Verdict.TheVariants.{Accepted, Refused}
 use Rattle.frame.specs.declared.Setup.{Setup}
 use Rattle.frame.specs.Frame.{is_framed}
 use Rattle.channel.specs.declared.Channel.{Channel}
 use Rattle.sound.specs.Sound.{is_sound}
 use Rattle.act.specs.declared.Entry.{Entry}
 use Rattle.logline.specs.Text.{has_room_in}
-use Rattle.step.specs.declared.StepAnswer.{StepAnswer}
-use Rattle.step.specs.declared.StepAnswer.TheVariants.{Done, Refused as NotDone}
 use Rattle.step.specs.Plan.{ready_verdict, plan_of}
 use Rattle.step.specs.Step.{step_of}
 use Rattle.step.specs.Run.{World, Out, stopped, step_in, world_after as stepped, go_on, run_from, run_by, run_of}
@@ -59,15 +56,15 @@ one_more setup w done all later c = (suc c.0, omega (arith, c.1), c.2)
 none_more : (setup : Setup) (w : World) (done : ℕ) → Comes setup (moment_in w) done done (moment_in w)
 none_more setup w done = (0, omega arith, refl)
 
-abbrev ran : Setup → ℕ → ℕ → World → StepAnswer → Out
-ran setup left done w a = go_on a (run_from setup left (suc done) (stepped setup w)) (λ (verdict : Verdict). stopped verdict done w)
+abbrev ran : Setup → ℕ → ℕ → World → Result Entry Refusal → Out
+ran setup left done w a = go_on a (run_from setup left (suc done) (stepped setup w)) (λ (verdict : Result Unit Refusal). stopped verdict done w)
 
-run_goes : (setup : Setup) (left done : ℕ) (w : World) (a : StepAnswer)
+run_goes : (setup : Setup) (left done : ℕ) (w : World) (a : Result Entry Refusal)
     → Comes setup (moment_in (stepped setup w)) (suc done) (run_from setup left (suc done) (stepped setup w)).result.steps
     (ran_to (run_from setup left (suc done) (stepped setup w)))
     → Comes setup (moment_in w) done (ran setup left done w a).result.steps (ran_to (ran setup left done w a))
-run_goes setup left done w (Done e) later = one_more setup w done _ _ later
-run_goes setup left done w (NotDone why) later = none_more setup w done
+run_goes setup left done w (Ok e) later = one_more setup w done _ _ later
+run_goes setup left done w (Err why) later = none_more setup w done
 
 run_comes : (setup : Setup) (left done : ℕ) (w : World)
     → Comes setup (moment_in w) done (run_from setup left done w).result.steps (ran_to (run_from setup left done w))
@@ -79,15 +76,15 @@ run_comes setup (suc left) done w =
 abbrev logged_on : Setup → ℕ → ℕ → World → Page → Entry → LoggedOut
 logged_on setup left done w p e = log_from setup left (suc done) (stepped setup w) (page_after p e)
 
-abbrev logged : Setup → ℕ → ℕ → World → Page → StepAnswer → LoggedOut
-logged setup left done w p a = log_on a (logged_on setup left done w p) (λ (verdict : Verdict). closed verdict done w p)
+abbrev logged : Setup → ℕ → ℕ → World → Page → Result Entry Refusal → LoggedOut
+logged setup left done w p a = log_on a (logged_on setup left done w p) (λ (verdict : Result Unit Refusal). closed verdict done w p)
 
-log_goes : (setup : Setup) (left done : ℕ) (w : World) (p : Page) (a : StepAnswer)
+log_goes : (setup : Setup) (left done : ℕ) (w : World) (p : Page) (a : Result Entry Refusal)
     → ((e : Entry) → Comes setup (moment_in (stepped setup w)) (suc done) (logged_on setup left done w p e).result.ran.steps
     (logged_to (logged_on setup left done w p e)))
     → Comes setup (moment_in w) done (logged setup left done w p a).result.ran.steps (logged_to (logged setup left done w p a))
-log_goes setup left done w p (Done e) later = one_more setup w done _ _ (later e)
-log_goes setup left done w p (NotDone why) later = none_more setup w done
+log_goes setup left done w p (Ok e) later = one_more setup w done _ _ (later e)
+log_goes setup left done w p (Err why) later = none_more setup w done
 
 log_comes : (setup : Setup) (left done : ℕ) (w : World) (p : Page)
     → Comes setup (moment_in w) done (log_from setup left done w p).result.ran.steps (logged_to (log_from setup left done w p))
@@ -108,9 +105,9 @@ pub run_is_steps : (setup : Setup) (budget : ℕ) (w : World)
 unfolding run_of
 run_is_steps setup budget w = by (ready_verdict setup w.channel (length w.slave) (length w.master))
   where
-    by : (v : Verdict) → ran_to (run_by setup v budget w) ≡ moment_after setup (moment_in w) (replicate (run_by setup v budget w).result.steps steps)
-    by (Refused why) = refl
-    by Accepted =
+    by : (v : Result Unit Refusal) → ran_to (run_by setup v budget w) ≡ moment_after setup (moment_in w) (replicate (run_by setup v budget w).result.steps steps)
+    by (Err why) = refl
+    by (Ok _) =
         by_test (ltb steps_most budget) (λ t. rw t refl) (λ f. rw f (reported setup (moment_in w) _ _ (run_comes setup budget 0 w)))
 
 pub log_is_steps : (setup : Setup) (budget : ℕ) (w : World) (p : Page)
@@ -118,14 +115,14 @@ pub log_is_steps : (setup : Setup) (budget : ℕ) (w : World) (p : Page)
 unfolding log_run_of
 log_is_steps setup budget w p = by (ready_verdict setup w.channel (length w.slave) (length w.master))
   where
-    by : (v : Verdict) → logged_to (log_by setup v budget w p) ≡ moment_after setup (moment_in w) (replicate (log_by setup v budget w p).result.ran.steps steps)
-    by (Refused why) = refl
-    by Accepted =
+    by : (v : Result Unit Refusal) → logged_to (log_by setup v budget w p) ≡ moment_after setup (moment_in w) (replicate (log_by setup v budget w p).result.ran.steps steps)
+    by (Err why) = refl
+    by (Ok _) =
         by_test (ltb steps_most budget) (λ t. rw t refl) (λ f. rw f (reported setup (moment_in w) _ _ (log_comes setup budget 0 w p)))
 
 -- over stores of other lengths every step and run is refused, by 9 or by 8
 module _ (setup : Setup) (ch : Channel) (slave master : List ℕ) (d : Differ setup slave master) where
-  differ_verdict : (why : Refusal) × (ready_verdict setup ch (length slave) (length master) ≡ Refused why)
+  differ_verdict : (why : Refusal) × (ready_verdict setup ch (length slave) (length master) ≡ Err why)
   unfolding ready_verdict
   differ_verdict = by_test (is_framed setup && is_sound setup ch) (λ t. (refusal_by 8, rw (t, d))) (λ f. (refusal_by 9, rw f))
 

@@ -3,10 +3,9 @@ use mathlib.Core.Path.{◌≡◌, refl, ap}
 use mathlib.Core.Bool.{true}
 use mathlib.Core.List.{List, [], ◌∷◌}
 use lib.ListN.{length}
+use Rattle.std.specs.Prelude.{Err, Ok, Result}
 use Rattle.refusal.specs.Refusal.{is_accepted}
 use Rattle.refusal.specs.declared.Refusal.{Refusal}
-use Rattle.refusal.specs.declared.Verdict.{Verdict}
-use Rattle.refusal.specs.declared.Verdict.TheVariants.{Accepted, Refused as NotReady}
 use Rattle.basics.proofs.Tests.{by_test}
 use Rattle.frame.specs.declared.Setup.{Setup}
 use Rattle.channel.specs.declared.Channel.{Channel}
@@ -34,9 +33,9 @@ pub by_ready : {A : Type 0} (setup : Setup) (m : Moment) → (Ready setup m.chan
 unfolding plan_of
 by_ready {A} setup m f g = by (ready_verdict setup m.channel (length m.slave) (length m.master)) refl
   where
-    by : (v : Verdict) → ready_verdict setup m.channel (length m.slave) (length m.master) ≡ v → A
-    by Accepted e = f (ready_is setup m.channel (length m.slave) (length m.master) e)
-    by (NotReady why) e = g why (ap (plan_by setup m.channel) e)
+    by : (v : Result Unit Refusal) → ready_verdict setup m.channel (length m.slave) (length m.master) ≡ v → A
+    by (Ok _) e = f (ready_is setup m.channel (length m.slave) (length m.master) e)
+    by (Err why) e = g why (ap (plan_by setup m.channel) e)
 
 -- the shape stays
 pub next_shaped : (setup : Setup) (m : Moment) (a : Act) → Shaped m.channel → Shaped (next setup m a).channel

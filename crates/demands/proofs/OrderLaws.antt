@@ -8,6 +8,8 @@ use native.Mathlib.Omega.{arith}
 use borrow.Author.Tests.{eqb-true, eqb-false}
 use lib.ListN.{length, length-append}
 use lib.Dec.{eqb}
+use Rattle.std.specs.Prelude.{Err, Ok, Result}
+use Rattle.refusal.specs.declared.Refusal.{Refusal}
 use Rattle.basics.proofs.Tests.{by_test}
 use Rattle.refusal.specs.Refusal.{is_accepted}
 use Rattle.frame.specs.declared.Setup.{Setup}
@@ -29,8 +31,6 @@ use Rattle.act.specs.Turn.{granted, grant_turn, leave_turn}
 use Rattle.act.proofs.EndingLaws.{ended_request}
 use Rattle.step.specs.declared.Plan.{Plan}
 use Rattle.step.specs.declared.Plan.TheVariants as plan
-use Rattle.step.specs.declared.StepAnswer.{StepAnswer}
-use Rattle.step.specs.declared.StepAnswer.TheVariants.{Done, Refused}
 use Rattle.step.specs.Plan.{act_plan}
 use Rattle.step.specs.Step.{advanced_by, step_of}
 use Rattle.step.proofs.PlanLaws.{says, plan_ready}
@@ -200,13 +200,13 @@ in_order setup m l (a ∷ acts) k =
     (in_order setup (next setup m a) l acts (next_shaped setup m a k))
 
 -- the log alone shows how many bytes were moved
-answer_logged : (ch : Channel) (l : ℕ) (answer : StepAnswer) (log : List Entry)
+answer_logged : (ch : Channel) (l : ℕ) (answer : Result Entry Refusal) (log : List Entry)
     → logged_bytes l (added answer log) ≡ length (moved_for ch l answer) + logged_bytes l log
-answer_logged ch l (Done (Idle clock)) log = sym (zero-add (logged_bytes l log))
-answer_logged ch l (Done (Grant clock level)) log = sym (zero-add (logged_bytes l log))
-answer_logged ch l (Done (Release clock level hold)) log = sym (zero-add (logged_bytes l log))
-answer_logged ch l (Refused why) log = sym (zero-add (logged_bytes l log))
-answer_logged ch l (Done (CycleLine entry)) log =
+answer_logged ch l (Ok (Idle clock)) log = sym (zero-add (logged_bytes l log))
+answer_logged ch l (Ok (Grant clock level)) log = sym (zero-add (logged_bytes l log))
+answer_logged ch l (Ok (Release clock level hold)) log = sym (zero-add (logged_bytes l log))
+answer_logged ch l (Err why) log = sym (zero-add (logged_bytes l log))
+answer_logged ch l (Ok (CycleLine entry)) log =
     by_test (eqb entry.level l) (λ t. rw (t, how_many entry.bytes _)) (λ f. rw f)
 
 pub log_counts : (setup : Setup) (m : Moment) (l : ℕ) (acts : List Act) → logged_bytes l (log_of setup m acts) ≡ length (moved_bytes setup m l acts)

@@ -5,6 +5,8 @@ use mathlib.Core.Bool.{true}
 use mathlib.Core.List.{List, [], ◌∷◌}
 use borrow.Author.Tests.{eq-eqb}
 use lib.ListN.{length}
+use Rattle.std.specs.Prelude.{Err, Ok, Result}
+use Rattle.refusal.specs.declared.Refusal.{Refusal}
 use Rattle.basics.proofs.Tests.{by_test}
 use Rattle.refusal.specs.Refusal.{is_accepted}
 use Rattle.frame.specs.declared.Setup.{Setup}
@@ -21,8 +23,6 @@ use Rattle.act.specs.Cycle.{Cycle, ending_at, clocked, freed, ended_by, moved_on
 use Rattle.act.specs.Turn.{granted, grant_turn, leave_turn}
 use Rattle.step.specs.declared.Plan.{Plan}
 use Rattle.step.specs.declared.Plan.TheVariants as plan
-use Rattle.step.specs.declared.StepAnswer.{StepAnswer}
-use Rattle.step.specs.declared.StepAnswer.TheVariants.{Done, Refused}
 use Rattle.step.specs.Plan.{act_plan}
 use Rattle.step.specs.Step.{advanced_by, step_of}
 use Rattle.step.proofs.PlanLaws.{says, plan_ready}
@@ -51,9 +51,9 @@ unfolding moved_on with_request clocked
 moved_phase ch o c = refl
 
 -- what a step's answer says about the phases before and after it
-abbrev Told : Phase → StepAnswer → Phase → Type 0
-Told before (Done entry) later = (may_log before entry ≡ true) × (later ≡ phase_after before entry)
-Told before (Refused why) later = later ≡ before
+abbrev Told : Phase → Result Entry Refusal → Phase → Type 0
+Told before (Ok entry) later = (may_log before entry ≡ true) × (later ≡ phase_after before entry)
+Told before (Err why) later = later ≡ before
 
 module _ (setup : Setup) (ch : Channel) where
   cycle_told : (o : ℕ) → act_plan setup ch ≡ plan.Cycle o
@@ -85,10 +85,10 @@ module _ (setup : Setup) (ch : Channel) where
   act_told (plan.Cycle o) e = cycle_told o e
 
 -- one entry more in front of a log that keeps to the owners
-front : (before : Phase) (answer : StepAnswer) (later : Phase) (log : List Entry) → Told before answer later → keeps_to_owners later log ≡ true
+front : (before : Phase) (answer : Result Entry Refusal) (later : Phase) (log : List Entry) → Told before answer later → keeps_to_owners later log ≡ true
     → keeps_to_owners before (added answer log) ≡ true
-front before (Done entry) later log t k = rw t.0 (rw t.1 at k)
-front before (Refused why) later log t k = rw t at k
+front before (Ok entry) later log t k = rw t.0 (rw t.1 at k)
+front before (Err why) later log t k = rw t at k
 
 step_told : (setup : Setup) (m : Moment)
     → Told m.channel.phase (step_of setup m.channel no_tally m.slave m.master).answer (next setup m steps).channel.phase

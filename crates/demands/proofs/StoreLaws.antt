@@ -9,10 +9,10 @@ use borrow.Author.Tests.{eqb-true, eqb-false, eq-eqb, le-leb, lt-ltb, leb-true, 
 use lib.ListN.{length, get_or, take, drop, length-drop, get_or-append}
 use lib.Seq.{paste, length_paste_head, length-take-le, get_or-append-add, get_or-take, get_or-drop}
 use lib.Dec.{eqb, leb, ltb}
+use Rattle.std.specs.Prelude.{None, Some}
 use Rattle.basics.proofs.Tests.{by_test, and_left, and_right}
 use Rattle.refusal.specs.declared.Refusal.{Refusal}
 use Rattle.frame.specs.declared.Setup.{Setup}
-use Rattle.frame.specs.declared.StorePlace.TheVariants.{Nowhere, At}
 use Rattle.frame.proofs.FrameLaws.{framed_slaves}
 use Rattle.frame.proofs.SlaveLaws.{places}
 use Rattle.channel.specs.declared.Request.{Request}
@@ -120,34 +120,34 @@ module _ (at n x : ℕ) where
       absurd (false≢true (sym f ∙ among_by (at + 1) n x l (omega (arith, k.1)))))
       (λ g. g ∙ sym f))
 
-source_here : (at from n x : ℕ) → at ≡ x → At from ≡ cond (is_among at (suc n) x) (At (from + (x - at))) Nowhere
+source_here : (at from n x : ℕ) → at ≡ x → Some from ≡ cond (is_among at (suc n) x) (Some (from + (x - at))) None
 source_here at from n x e =
     let s : from + (x - at) ≡ from = omega (arith, e) in
     rw (among_by at (suc n) x (omega (arith, e)) (omega (arith, e)), s)
 
 source_later : (at from n x : ℕ) → (at ≡ x → ⊥)
-    → cond (is_among (at + 1) n x) (At (from + 1 + (x - (at + 1)))) Nowhere ≡ cond (is_among at (suc n) x) (At (from + (x - at))) Nowhere
+    → cond (is_among (at + 1) n x) (Some (from + 1 + (x - (at + 1)))) None ≡ cond (is_among at (suc n) x) (Some (from + (x - at))) None
 source_later at from n x other =
     rw (among_next at n x other)
     (by_test (is_among (at + 1) n x)
-    (λ t. let k = among_is (at + 1) n x t in rw t (ap At (omega (arith, k.0))))
+    (λ t. let k = among_is (at + 1) n x t in rw t (ap Some (omega (arith, k.0))))
     (λ f. rw f))
 
 -- a byte's ends at consecutive places
 abbrev EndsFrom : Setup → Side → ℕ → ℕ → Byte → Type 0
-EndsFrom setup side n at b = (i : ℕ) → i < n → end_in setup side (further i b) ≡ At (at + i)
+EndsFrom setup side n at b = (i : ℕ) → i < n → end_in setup side (further i b) ≡ Some (at + i)
 
-ends_first : (setup : Setup) (side : Side) (n at : ℕ) (b : Byte) → EndsFrom setup side (suc n) at b → end_in setup side b ≡ At at
+ends_first : (setup : Setup) (side : Side) (n at : ℕ) (b : Byte) → EndsFrom setup side (suc n) at b → end_in setup side b ≡ Some at
 ends_first setup side n at b h =
-    ap (end_in setup side) (sym (further_none b)) ∙ h 0 (omega arith) ∙ ap At (add-zero at)
+    ap (end_in setup side) (sym (further_none b)) ∙ h 0 (omega arith) ∙ ap Some (add-zero at)
 
 ends_next : (setup : Setup) (side : Side) (n at : ℕ) (b : Byte) → EndsFrom setup side (suc n) at b → EndsFrom setup side n (at + 1) (further 1 b)
 ends_next setup side n at b h i k =
     let e : at + suc i ≡ at + 1 + i = omega arith in
-    ap (end_in setup side) (further_more i b) ∙ h (suc i) (omega arith) ∙ ap At e
+    ap (end_in setup side) (further_more i b) ∙ h (suc i) (omega arith) ∙ ap Some e
 
 source_run : (setup : Setup) (side : Side) (x n at from : ℕ) (b : Byte) → goes_to side b ≡ true → EndsFrom setup side n at b
-    → EndsFrom setup (across side) n from b → source_in setup side x (bytes_from n b) ≡ cond (is_among at n x) (At (from + (x - at))) Nowhere
+    → EndsFrom setup (across side) n from b → source_in setup side x (bytes_from n b) ≡ cond (is_among at n x) (Some (from + (x - at))) None
 source_run setup side x zero at from b g h k = rw (among_none at x)
 source_run setup side x (suc n) at from b g h k =
     rw (g, ends_first setup side n at b h, ends_first setup (across side) n from b k)
@@ -159,7 +159,7 @@ source_run setup side x (suc n) at from b g h k =
     (ends_next setup (across side) n from b k)
     ∙ source_later at from n x (eqb-false at x f))))
 
-source_none : (setup : Setup) (side : Side) (x n : ℕ) (b : Byte) → goes_to side b ≡ false → source_in setup side x (bytes_from n b) ≡ Nowhere
+source_none : (setup : Setup) (side : Side) (x n : ℕ) (b : Byte) → goes_to side b ≡ false → source_in setup side x (bytes_from n b) ≡ None
 source_none setup side x zero b g = refl
 source_none setup side x (suc n) b g = rw g (source_none setup side x n (further 1 b) (goes_further side 1 b ∙ g))
 

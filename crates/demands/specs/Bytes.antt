@@ -1,5 +1,6 @@
 -- The bytes that a level asks for, those that its cycles move and those that are open, each in order.
-use Rattle.std.specs.Prelude.{ℕ, zero, suc, ◌+◌, Bool, false, cond, ◌&&◌, List, [], ◌∷◌, ◌++◌, eqb}
+use Rattle.refusal.specs.declared.Refusal.{Refusal}
+use Rattle.std.specs.Prelude.{ℕ, zero, suc, ◌+◌, Bool, false, cond, ◌&&◌, List, [], ◌∷◌, ◌++◌, eqb, Err, Ok, Result}
 use Rattle.refusal.specs.Refusal.{is_accepted}
 use Rattle.frame.specs.declared.Setup.{Setup}
 use Rattle.channel.specs.declared.Channel.{Channel}
@@ -9,8 +10,6 @@ use Rattle.post.specs.Post.{request_in, post_verdict}
 use Rattle.act.specs.declared.CycleEntry.{CycleEntry}
 use Rattle.act.specs.declared.Entry.{Entry}
 use Rattle.act.specs.declared.Entry.TheVariants.{Idle, Grant, Cycle, Release}
-use Rattle.step.specs.declared.StepAnswer.{StepAnswer}
-use Rattle.step.specs.declared.StepAnswer.TheVariants.{Done, Refused}
 use Rattle.step.specs.Step.{step_of}
 use Rattle.demands.specs.History.{Moment, Act, posts, steps, no_tally, next}
 
@@ -64,15 +63,15 @@ is_cycle_of l (Cycle entry) = eqb entry.level l
 is_cycle_of l (Release clock level hold) = false
 
 -- what a step moved, and what it moved for one level
-abbrev pub carried : Channel → StepAnswer → List Byte
-carried ch (Done entry) = carried_in ch entry
-carried ch (Refused why) = []
+abbrev pub carried : Channel → Result Entry Refusal → List Byte
+carried ch (Ok entry) = carried_in ch entry
+carried ch (Err why) = []
 
-abbrev pub moved_for : Channel → ℕ → StepAnswer → List Byte
-moved_for ch l (Done entry) = cond (is_cycle_of l entry) (carried_in ch entry) []
-moved_for ch l (Refused why) = []
+abbrev pub moved_for : Channel → ℕ → Result Entry Refusal → List Byte
+moved_for ch l (Ok entry) = cond (is_cycle_of l entry) (carried_in ch entry) []
+moved_for ch l (Err why) = []
 
-abbrev pub answer_at : Setup → Moment → StepAnswer
+abbrev pub answer_at : Setup → Moment → Result Entry Refusal
 answer_at setup m = (step_of setup m.channel no_tally m.slave m.master).answer
 
 abbrev pub moved_by : Setup → Moment → ℕ → Act → List Byte

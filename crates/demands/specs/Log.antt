@@ -1,5 +1,6 @@
 -- The log of a history, and what it is for a log to keep to the owners.
-use Rattle.std.specs.Prelude.{ℕ, Bool, true, false, ◌&&◌, ◌||◌, List, [], ◌∷◌, eqb}
+use Rattle.refusal.specs.declared.Refusal.{Refusal}
+use Rattle.std.specs.Prelude.{ℕ, Bool, true, false, ◌&&◌, ◌||◌, List, [], ◌∷◌, eqb, Err, Ok, Result}
 use Rattle.frame.specs.declared.Setup.{Setup}
 use Rattle.channel.specs.declared.Phase.{Phase}
 use Rattle.channel.specs.declared.Phase.TheVariants.{Arbitrating, Granted}
@@ -10,15 +11,13 @@ use Rattle.act.specs.declared.Entry.TheVariants.{Idle, Grant, Cycle, Release}
 use Rattle.cycle.specs.Cycle.{is_transfer_end}
 use Rattle.channel.specs.declared.Request.{Request}
 use Rattle.act.specs.Cycle.{route_of, cycle_bytes, rest_after}
-use Rattle.step.specs.declared.StepAnswer.{StepAnswer}
-use Rattle.step.specs.declared.StepAnswer.TheVariants.{Done, Refused}
 use Rattle.step.specs.Step.{step_of}
 use Rattle.demands.specs.History.{Moment, Act, posts, steps, no_tally, next}
 
 -- a step adds its entry; a refused one has none
-abbrev pub added : StepAnswer → List Entry → List Entry
-added (Done entry) log = entry ∷ log
-added (Refused why) log = log
+abbrev pub added : Result Entry Refusal → List Entry → List Entry
+added (Ok entry) log = entry ∷ log
+added (Err why) log = log
 
 abbrev pub log_of : Setup → Moment → List Act → List Entry
 log_of setup m [] = []

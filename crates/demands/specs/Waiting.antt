@@ -1,10 +1,8 @@
 -- "the first moment, from its grant on, when another level has an open request", read off a history, without the asked time.
-use Rattle.std.specs.Prelude.{ℕ, cond, List, [], ◌∷◌, eqb}
+use Rattle.std.specs.Prelude.{ℕ, cond, List, [], ◌∷◌, eqb, None, Option, Some}
 use Rattle.frame.specs.declared.Setup.{Setup}
 use Rattle.channel.specs.declared.Phase.{Phase}
 use Rattle.channel.specs.declared.Phase.TheVariants.{Arbitrating, Granted}
-use Rattle.channel.specs.declared.Asked.{Asked}
-use Rattle.channel.specs.declared.Asked.TheVariants.{Never, At}
 use Rattle.channel.specs.declared.Channel.{Channel}
 use Rattle.channel.specs.Line.{others_ask}
 use Rattle.demands.specs.History.{Moment, Act, next}
@@ -28,10 +26,10 @@ abbrev pub first_after : First → Channel → First
 first_after first ch = noted ch.phase first ch
 
 -- at the start the owner counts as granted there, and its asked time, if any, as that moment
-abbrev pub first_in : Phase → Asked → First
+abbrev pub first_in : Phase → Option ℕ → First
 first_in Arbitrating asked = nobody
-first_in (Granted owner) Never = nobody
-first_in (Granted owner) (At clock) = since owner clock
+first_in (Granted owner) None = nobody
+first_in (Granted owner) (Some clock) = since owner clock
 
 abbrev pub first_of : Channel → First
 first_of ch = first_in ch.phase ch.asked

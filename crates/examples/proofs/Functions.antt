@@ -66,10 +66,10 @@ module _ {M : Type 1} {𝓤 : Ura M} (𝓛 : Logic 𝓤) (mem : Memory → SProp
     λ κs a g. lent_one 𝓤 _ _ (λ ws. ws.0) (λ v w p i. (p i, (tt, (tt, tt)))),
   )
 
-  of_numbers : One numbers.number_at.ended numbers.number_at.clauses
-      × One numbers.length_of.ended numbers.length_of.clauses
-      × One numbers.number_between.ended numbers.number_between.clauses
-      × One numbers.numbers_at.ended numbers.numbers_at.clauses
+  of_numbers : One numbers.Source.number_at.ended numbers.Source.number_at.clauses
+      × One numbers.Source.length_of.ended numbers.Source.length_of.clauses
+      × One numbers.Source.number_between.ended numbers.Source.number_between.clauses
+      × One numbers.Source.numbers_at.ended numbers.Source.numbers_at.clauses
       × One numbers.count_numbers.ended numbers.count_numbers.clauses
       × One numbers.copy_numbers.ended numbers.copy_numbers.clauses
       × One numbers.bytes_size.ended numbers.bytes_size.clauses

@@ -11,9 +11,7 @@ use borrow.Author.Tests.{eqb-true, eq-eqb, le-ltb, lt-ltb}
 use Rattle.basics.specs.Limits.{memory_end, steps_most}
 use Rattle.basics.proofs.Tests.{by_test, and_left, and_right}
 use Rattle.refusal.specs.declared.Refusal.{Refusal}
-use Rattle.refusal.specs.Refusal.{refusal_number, refusal_by, refused_by, verdict_number}
-use Rattle.refusal.specs.declared.Verdict.{Verdict}
-use Rattle.refusal.specs.declared.Verdict.TheVariants.{Accepted, Refused}
+use Rattle.refusal.specs.Refusal.{accepted, refusal_number, refusal_by, refused_by, verdict_number}
 use Rattle.refusal.proofs.NumberLaws.{not_zero}
 use Rattle.number.specs.Number.{has_number_room, whole_at, writing_numbers}
 use Rattle.cycle.specs.Cycle.{is_length, is_width, is_port, cycle_count}
@@ -37,25 +35,39 @@ use Rattle.logline.specs.Text.{has_room_in as line_room}
 use Rattle.tally.specs.declared.Tally.{Tally}
 use Rattle.step.specs.declared.Plan.{Plan}
 use Rattle.step.specs.declared.Plan.TheVariants as plan
-use Rattle.step.specs.declared.StepAnswer.{StepAnswer}
-use Rattle.step.specs.declared.StepAnswer.TheVariants.{Done, Refused as NotDone}
 use Rattle.step.specs.Plan.{ready_verdict, plan_by, plan_of, owner_plan, act_plan, phase_plan}
 use Rattle.step.specs.Step.{Ready, plan_numbers, step_numbers, advanced_by, step_of}
 use Rattle.step.proofs.PlanLaws.{ready_is}
 use Rattle.step.specs.Run.{World, Out, stopped, step_in, world_after, go_on, run_from, run_of}
 use Rattle.step.specs.Log.{Page, page_after, LoggedOut, closed, log_on, log_from, log_run_of}
 use Rattle.step.proofs.TurnLaws.{ready_next}
-use Rattle.numbers.specs.declared.Part.{Part}
-use Rattle.numbers.specs.declared.Part.TheVariants.{Good, Fault}
+use Rattle.std.specs.Prelude.{Result, Ok, Err}
+use Rattle.number.specs.declared.Fault.{Fault}
+use Rattle.numbers.specs.Numbers.{Part}
 use Rattle.sheet.specs.Sheet.{answered, sheet_numbers}
 use Rattle.frame.specs.Frame.{is_framed}
 use Rattle.sound.specs.Sound.{is_sound}
-use Rattle.image.specs.declared.Imaged.{Imaged}
 use Rattle.image.specs.Layout.{image_bytes, image_most}
-use Rattle.image.specs.Image.{then_image, malformed, read_setup, read_channel, read_image, write_image, head_read, head_bytes, read_head}
+use Rattle.image.specs.Image.{
+  Imaged,
+  then_image,
+  malformed,
+  read_setup,
+  read_channel,
+  read_image,
+  write_image,
+  head_read,
+  head_bytes,
+  read_head,
+  imaged_verdict,
+  imaged_setup,
+  imaged_channel,
+}
 use Rattle.why.specs.Why.{why_of}
-use Rattle.lobrinkas.specs.Answers.{cycle_step, step_by}
+use Rattle.why.specs.declared.Reason.{Reason}
+use Rattle.lobrinkas.specs.Answers.{cycle_step, step_by, count_by, told_by}
 use Rattle.lobrinkas.specs.Calls.{
+  lobrinkas_cycle_count,
   Answered,
   set_up_by,
   answer_by,
@@ -110,24 +122,24 @@ are_numbers [] = true
 are_numbers ((n, holds) ∷ rows) = eqb (refusal_number (refusal_by n)) n && are_numbers rows
 
 -- rows of a verdict, and what follows where none of them holds, whatever is made of the verdict
-rows_told : (told : Verdict → ℕ) → ((r : Refusal) → told (Refused r) ≡ refusal_number r) → (rows more : List RefusalRow) (v : Verdict)
+rows_told : (told : Result Unit Refusal → ℕ) → ((r : Refusal) → told (Err r) ≡ refusal_number r) → (rows more : List RefusalRow) (v : Result Unit Refusal)
     → are_numbers rows ≡ true → told v ≡ first_number more → told (refused_by rows v) ≡ first_number (rows ++ more)
 rows_told told by [] more v are rest = rest
 rows_told told by ((n, true) ∷ rows) more v are rest = by (refusal_by n) ∙ eqb-true _ n (and_left (eqb (refusal_number (refusal_by n)) n) (are_numbers rows) are)
 rows_told told by ((n, false) ∷ rows) more v are rest =
     rows_told told by rows more v (and_right (eqb (refusal_number (refusal_by n)) n) (are_numbers rows) are) rest
 
-rows_number : (rows more : List RefusalRow) (v : Verdict) → are_numbers rows ≡ true → verdict_number v ≡ first_number more
+rows_number : (rows more : List RefusalRow) (v : Result Unit Refusal) → are_numbers rows ≡ true → verdict_number v ≡ first_number more
     → verdict_number (refused_by rows v) ≡ first_number (rows ++ more)
 rows_number rows more v are rest = rows_told verdict_number (λ r. refl) rows more v are rest
 
 pub set_up_number : (setup : Setup) → verdict_number (set_up setup).verdict ≡ first_number (broken setup ∷ [])
 unfolding set_up
-set_up_number setup = rows_number (broken setup ∷ []) [] Accepted refl refl
+set_up_number setup = rows_number (broken setup ∷ []) [] accepted refl refl
 
 pub request_number : (setup : Setup) (l : ℕ) (q : Request) → verdict_number (request_verdict setup l q) ≡ first_number (request_rows setup q)
 unfolding request_verdict
-request_number setup l q = rows_number (request_rows setup q) [] Accepted refl refl
+request_number setup l q = rows_number (request_rows setup q) [] accepted refl refl
 
 pub post_number : (setup : Setup) (ch : Channel) (p : Order) → verdict_number (post_of setup ch p).verdict ≡ first_number (post_rows setup ch p)
 unfolding post_of post_verdict
@@ -139,17 +151,25 @@ post_number setup ch p =
     refl
     (request_number setup p.level (request_in p))
 
-pub count_number : (a n w p : ℕ) → verdict_number (cycle_count a n w p).verdict ≡ first_number (count_rows a n w p)
+pub count_number : (a n w p : ℕ) → verdict_number (cycle_count a n w p) ≡ first_number (count_rows a n w p)
 unfolding cycle_count
 count_number a n w p =
     by_test (not (is_length n && (is_width w && is_port p)))
     (λ t. rw t)
     (λ f. by_test (ltb memory_end (a + n)) (λ t. rw (f, t)) (λ g. rw (f, g)))
 
+-- the archive's cycle count answers the same number
+count_call : (count : Result ℕ Refusal) → (count_by count).refusal ≡ verdict_number count
+count_call (Ok cycles) = refl
+count_call (Err why) = refl
+
+pub count_call_number : (a n w p : ℕ) → (lobrinkas_cycle_count a n w p).refusal ≡ first_number (count_rows a n w p)
+count_call_number a n w p = count_call (cycle_count a n w p) ∙ count_number a n w p
+
 pub ready_number : (setup : Setup) (ch : Channel) (slave master : ℕ)
     → verdict_number (ready_verdict setup ch slave master) ≡ first_number (unsound setup ch ∷ other_length setup slave master ∷ [])
 unfolding ready_verdict
-ready_number setup ch slave master = rows_number (unsound setup ch ∷ other_length setup slave master ∷ []) [] Accepted refl refl
+ready_number setup ch slave master = rows_number (unsound setup ch ∷ other_length setup slave master ∷ []) [] accepted refl refl
 
 -- the number of an answer is the first of its numbers
 abbrev pub first : List ℕ → ℕ
@@ -178,7 +198,7 @@ plan_number setup ch slave master =
     rows_told (λ v. first (plan_numbers (plan_by setup ch v))) (λ r. refl)
     (unsound setup ch ∷ other_length setup slave master ∷ [])
     ((6, passes setup ch ch.phase) ∷ [])
-    Accepted
+    accepted
     refl
     (phase_number_lem setup ch ch.phase)
 
@@ -199,8 +219,8 @@ pub written_told_lem : (s : List ℕ) (at : ℕ) (what : List ℕ) → writing_n
 written_told_lem s at what = by_test (has_number_room s at what) (λ t. rw t) (λ f. rw f)
 
 pub sheet_told_lem : (j : Part) (need room : ℕ) → sheet_numbers (answered j need room) ≡ sheet_told j need room
-sheet_told_lem (Good end) need room = by_test (leb need room) (λ t. rw t) (λ f. rw f)
-sheet_told_lem (Fault why place) need room = refl
+sheet_told_lem (Ok end) need room = by_test (leb need room) (λ t. rw t) (λ f. rw f)
+sheet_told_lem (Err f) need room = refl
 
 -- a run
 
@@ -217,7 +237,7 @@ module _ (setup : Setup) (w : World) (s : Runnable setup w) where
       rw (r.framed, r.sound, eq-eqb (length w.slave) _ r.slave, eq-eqb (length w.master) _ r.master)
 
   -- a step of a channel that is ready is refused by 6 alone
-  only_six : (why : Refusal) → (step_in setup w).answer ≡ NotDone why → refusal_number why ≡ 6
+  only_six : (why : Refusal) → (step_in setup w).answer ≡ Err why → refusal_number why ≡ 6
   only_six why q =
       let e : refusal_number why ≡ first_number ((6, passes setup w.channel w.channel.phase) ∷ []) =
       ap (λ a. first (step_numbers a)) (sym q)
@@ -240,14 +260,14 @@ run_from_lem setup zero done w s = (omega arith, rw (le-ltb done (done + 0) (ome
 run_from_lem setup (suc left) done w s =
     goes (step_in setup w).answer refl (run_from_lem setup left (suc done) (world_after setup w) (kept setup w s))
   where
-    goes : (a : StepAnswer) → (step_in setup w).answer ≡ a → Stopped (suc done + left) (run_from setup left (suc done) (world_after setup w))
-        → Stopped (done + suc left) (go_on a (run_from setup left (suc done) (world_after setup w)) (λ (v : Verdict). stopped v done w))
-    goes (Done e) q later = let more : suc done + left ≡ done + suc left = omega arith in rw more at later
-    goes (NotDone why) q later = (omega arith, rw (lt-ltb done (done + suc left) (omega arith)) (only_six setup w s why q))
+    goes : (a : Result Entry Refusal) → (step_in setup w).answer ≡ a → Stopped (suc done + left) (run_from setup left (suc done) (world_after setup w))
+        → Stopped (done + suc left) (go_on a (run_from setup left (suc done) (world_after setup w)) (λ (v : Result Unit Refusal). stopped v done w))
+    goes (Ok e) q later = let more : suc done + left ≡ done + suc left = omega arith in rw more at later
+    goes (Err why) q later = (omega arith, rw (lt-ltb done (done + suc left) (omega arith)) (only_six setup w s why q))
 
 -- where neither 9 nor 8 refuses
 ready_start : (setup : Setup) (w : World) → Shaped w.channel
-    → ready_verdict setup w.channel (length w.slave) (length w.master) ≡ Accepted → Runnable setup w
+    → ready_verdict setup w.channel (length w.slave) (length w.master) ≡ accepted → Runnable setup w
 ready_start setup w k e = record { ready = ready_is setup w.channel (length w.slave) (length w.master) e; shaped = k }
 
 pub run_number : (setup : Setup) (budget : ℕ) (w : World) → Shaped w.channel
@@ -276,11 +296,11 @@ log_from_lem setup (suc left) done w p s =
   where
     goes : line_room p.out p.at ≡ true
         → ((e : Entry) → LogStopped (suc done + left) (log_from setup left (suc done) (world_after setup w) (page_after p e)))
-        → (a : StepAnswer) → (step_in setup w).answer ≡ a
+        → (a : Result Entry Refusal) → (step_in setup w).answer ≡ a
         → LogStopped (done + suc left)
-        (log_on a (λ (entry : Entry). log_from setup left (suc done) (world_after setup w) (page_after p entry)) (λ (v : Verdict). closed v done w p))
-    goes t later (Done e) q = let more : suc done + left ≡ done + suc left = omega arith in rw more at (later e)
-    goes t later (NotDone why) q = (omega arith, rw (lt-ltb done (done + suc left) (omega arith), t) (only_six setup w s why q))
+        (log_on a (λ (entry : Entry). log_from setup left (suc done) (world_after setup w) (page_after p entry)) (λ (v : Result Unit Refusal). closed v done w p))
+    goes t later (Ok e) q = let more : suc done + left ≡ done + suc left = omega arith in rw more at (later e)
+    goes t later (Err why) q = (omega arith, rw (lt-ltb done (done + suc left) (omega arith), t) (only_six setup w s why q))
 
 pub log_number : (setup : Setup) (budget : ℕ) (w : World) (p : Page) → Shaped w.channel
     → verdict_number (log_run_of setup budget w p).result.ran.verdict ≡ first_number (log_rows setup budget w p)
@@ -294,25 +314,27 @@ log_number setup budget w p k =
 -- an image
 
 -- a part that is at fault makes a malformed image, and one that is good hands on
-then_number : (j : Part) (f : ℕ → Imaged) (g : ℕ → Bool) → ((at : ℕ) → verdict_number (f at).verdict ≡ first_number ((18, not (g at)) ∷ []))
-    → verdict_number (then_image j f).verdict ≡ first_number ((18, not (is_good_then j g)) ∷ [])
-then_number (Good at) f g later = later at
-then_number (Fault why place) f g later = refl
+then_number : {A : Type 0} (j : Result A Fault) (f : A → Imaged) (g : A → Bool)
+    → ((x : A) → verdict_number (imaged_verdict (f x)) ≡ first_number ((18, not (g x)) ∷ []))
+    → verdict_number (imaged_verdict (then_image j f)) ≡ first_number ((18, not (is_good_then j g)) ∷ [])
+then_number (Ok x) f g later = later x
+then_number (Err x) f g later = refl
 
-pub image_number : (bytes : List ℕ) (n : ℕ) → verdict_number (read_image bytes n).verdict ≡ first_number (malformed_image bytes n ∷ [])
+pub image_number : (bytes : List ℕ) (n : ℕ) → verdict_number (imaged_verdict (read_image bytes n)) ≡ first_number (malformed_image bytes n ∷ [])
 unfolding read_image
 image_number bytes n =
-    then_number (read_setup bytes n).part _ _ (λ start. then_number (read_channel bytes n start).part _ _ (λ end. refl))
+    then_number (read_setup bytes n) _ _ (λ head. then_number (read_channel bytes n head.1).part _ _ (λ end. refl))
 
-ended_number : (b : Bool) (i : Imaged) → verdict_number i.verdict ≡ 0 → verdict_number (cond b malformed i).verdict ≡ first_number ((18, not (not b)) ∷ [])
+ended_number : (b : Bool) (i : Imaged) → verdict_number (imaged_verdict i) ≡ 0
+    → verdict_number (imaged_verdict (cond b malformed i)) ≡ first_number ((18, not (not b)) ∷ [])
 ended_number true i good = refl
 ended_number false i good = good
 
-pub head_number : (list : List ℕ) (master : ℕ) → verdict_number (read_head list master).verdict ≡ first_number (malformed_head list master ∷ [])
+pub head_number : (list : List ℕ) (master : ℕ) → verdict_number (imaged_verdict (read_head list master)) ≡ first_number (malformed_head list master ∷ [])
 unfolding read_head head_read
 head_number list master =
     let bytes = head_bytes list master in
-    then_number (read_setup bytes (length bytes)).part _ _ (λ end. ended_number (ltb end (length bytes)) _ refl)
+    then_number (read_setup bytes (length bytes)) _ _ (λ head. ended_number (ltb head.1 (length bytes)) _ refl)
 
 pub image_told_lem : (setup : Setup) (ch : Channel) (out : List ℕ) → writing_numbers (write_image setup ch out) ≡ image_told setup ch out
 unfolding write_image
@@ -322,12 +344,12 @@ image_told_lem setup ch out =
 -- the calls for C
 
 -- a call over an image is refused by 18, or tells what is told of the plain call
-over_image : (told : Verdict → ℕ) → ((r : Refusal) → told (Refused r) ≡ refusal_number r) → (v : Verdict) (bad : Bool) (rows : List RefusalRow)
-    → verdict_number v ≡ first_number ((18, bad) ∷ []) → told Accepted ≡ first_number rows → told v ≡ first_number ((18, bad) ∷ rows)
-over_image told by Accepted true rows e rest = let z : ◌≡◌ {A = ℕ} 0 18 = e in absurd (omega arith)
-over_image told by Accepted false rows e rest = rest
-over_image told by (Refused r) true rows e rest = by r ∙ e
-over_image told by (Refused r) false rows e rest = absurd (not_zero r e)
+over_image : (told : Result Unit Refusal → ℕ) → ((r : Refusal) → told (Err r) ≡ refusal_number r) → (v : Result Unit Refusal) (bad : Bool) (rows : List RefusalRow)
+    → verdict_number v ≡ first_number ((18, bad) ∷ []) → told accepted ≡ first_number rows → told v ≡ first_number ((18, bad) ∷ rows)
+over_image told by (Ok _) true rows e rest = let z : ◌≡◌ {A = ℕ} 0 18 = e in absurd (omega arith)
+over_image told by (Ok _) false rows e rest = rest
+over_image told by (Err r) true rows e rest = by r ∙ e
+over_image told by (Err r) false rows e rest = absurd (not_zero r e)
 
 -- rows of which one holds, and rows of which none does, before others
 rows_stay : (rows more : List RefusalRow) → (first_number rows ≡ 0 → ⊥) → first_number (rows ++ more) ≡ first_number rows
@@ -347,27 +369,27 @@ room_number true x y fits short = fits
 room_number false x y fits short = short
 
 answer_room : (setup : Setup) (ch : Channel) (image : List ℕ) (n : ℕ)
-    → (answer_by Accepted setup ch image n).result.refusal ≡ first_number (no_image_room setup ch image ∷ [])
+    → (answer_by accepted setup ch image n).result.refusal ≡ first_number (no_image_room setup ch image ∷ [])
 answer_room setup ch image n = room_number (leb (length (image_bytes setup ch)) (length image)) _ _ refl refl
 
 pub set_up_call_number : (image list : List ℕ) (master : ℕ)
     → (lobrinkas_set_up image list master).result.refusal ≡ first_number (set_up_call_rows image list master)
 unfolding lobrinkas_set_up set_up
 set_up_call_number image list master =
-    let setup = (read_head list master).setup in
-    over_image (λ v. (set_up_by v setup image).result.refusal) (λ r. refl) (read_head list master).verdict (malformed_head list master).1
+    let setup = imaged_setup (read_head list master) in
+    over_image (λ v. (set_up_by v setup image).result.refusal) (λ r. refl) (imaged_verdict (read_head list master)) (malformed_head list master).1
     (broken setup ∷ no_image_room setup fresh_channel image ∷ [])
     (head_number list master)
     (rows_told (λ v. (answer_by v setup fresh_channel image 0).result.refusal) (λ r. refl) (broken setup ∷ []) (no_image_room setup fresh_channel image ∷ [])
-    Accepted refl (answer_room setup fresh_channel image 0))
+    accepted refl (answer_room setup fresh_channel image 0))
 
 pub post_call_number : (image : List ℕ) (n : ℕ) (p : Order) → (lobrinkas_post image n p).result.refusal ≡ first_number (post_call_rows image n p)
 unfolding lobrinkas_post post_of post_verdict request_verdict
 post_call_number image n p =
-    let setup = (read_image image n).setup in
-    let ch = (read_image image n).channel in
+    let setup = imaged_setup (read_image image n) in
+    let ch = imaged_channel (read_image image n) in
     let next = (post_of setup ch p).channel in
-    over_image (λ v. (post_by v setup ch p image n).result.refusal) (λ r. refl) (read_image image n).verdict (malformed_image image n).1
+    over_image (λ v. (post_by v setup ch p image n).result.refusal) (λ r. refl) (imaged_verdict (read_image image n)) (malformed_image image n).1
     (post_rows setup ch p ++ (no_image_room setup next image ∷ []))
     (image_number image n)
     (rows_told (λ v. (answer_by v setup next image n).result.refusal) (λ r. refl)
@@ -376,7 +398,7 @@ post_call_number image n p =
     (request_verdict setup p.level (request_in p))
     refl
     (rows_told (λ v. (answer_by v setup next image n).result.refusal) (λ r. refl) (request_rows setup (request_in p)) (no_image_room setup next image ∷ [])
-    Accepted refl (answer_room setup next image n)))
+    accepted refl (answer_room setup next image n)))
 
 entry_none : (e : Entry) (n : ℕ) (t : Tally) → (step_by e n t).refusal ≡ 0
 unfolding cycle_step
@@ -389,12 +411,12 @@ step_room : (b : Bool) (x y : Stepping) → x.result.refusal ≡ 0 → y.result.
 step_room true x y fits short = fits
 step_room false x y fits short = short
 
-stepped_number : (a : StepAnswer) (setup : Setup) (ch : Channel) (step : Step) (t : Tally) (image : List ℕ) (n : ℕ) (slave master : List ℕ)
+stepped_number : (a : Result Entry Refusal) (setup : Setup) (ch : Channel) (step : Step) (t : Tally) (image : List ℕ) (n : ℕ) (slave master : List ℕ)
     (rows : List RefusalRow) → are_numbers rows ≡ true → first (step_numbers a) ≡ first_number rows
     → (step_answered a setup ch step t image n slave master).result.refusal ≡ first_number (rows ++ (no_image_room setup step.channel image ∷ []))
-stepped_number (NotDone why) setup ch step t image n slave master rows are e =
+stepped_number (Err why) setup ch step t image n slave master rows are e =
     e ∙ sym (rows_stay rows _ (λ z. not_zero why (e ∙ z)))
-stepped_number (Done entry) setup ch step t image n slave master rows are e =
+stepped_number (Ok entry) setup ch step t image n slave master rows are e =
     step_room (leb (length (image_bytes setup step.channel)) (length image)) _ _ (entry_none entry _ _) refl
     ∙ sym (rows_pass rows (no_image_room setup step.channel image ∷ []) are (sym e))
 
@@ -402,9 +424,9 @@ pub step_call_number : (image : List ℕ) (n : ℕ) (slave master : List ℕ) (t
     → (lobrinkas_step image n slave master t).result.refusal ≡ first_number (step_call_rows image n slave master t)
 unfolding lobrinkas_step
 step_call_number image n slave master t =
-    let setup = (read_image image n).setup in
-    let ch = (read_image image n).channel in
-    over_image (λ v. (stepping_by v setup ch t image n slave master).result.refusal) (λ r. refl) (read_image image n).verdict (malformed_image image n).1
+    let setup = imaged_setup (read_image image n) in
+    let ch = imaged_channel (read_image image n) in
+    over_image (λ v. (stepping_by v setup ch t image n slave master).result.refusal) (λ r. refl) (imaged_verdict (read_image image n)) (malformed_image image n).1
     (step_rows setup ch (length slave) (length master) ++ (no_image_room setup (step_of setup ch t slave master).channel image ∷ []))
     (image_number image n)
     (stepped_number (step_of setup ch t slave master).answer setup ch (step_of setup ch t slave master) t image n slave master
@@ -420,26 +442,30 @@ pub run_call_number : (image : List ℕ) (n : ℕ) (slave master : List ℕ) (t 
     → (lobrinkas_run image n slave master t budget).result.refusal ≡ first_number (run_call_rows image n slave master budget)
 unfolding lobrinkas_run ready_verdict
 run_call_number image n slave master t budget =
-    let setup = (read_image image n).setup in
-    let ch = (read_image image n).channel in
+    let setup = imaged_setup (read_image image n) in
+    let ch = imaged_channel (read_image image n) in
     let more : List RefusalRow = (7, ltb steps_most budget) ∷ (17, not (leb image_most (length image))) ∷ [] in
-    over_image (λ v. (run_answered_by v setup ch t budget image n slave master).result.refusal) (λ r. refl) (read_image image n).verdict
+    over_image (λ v. (run_answered_by v setup ch t budget image n slave master).result.refusal) (λ r. refl) (imaged_verdict (read_image image n))
     (malformed_image image n).1
     (unsound setup ch ∷ other_length setup (length slave) (length master) ∷ more)
     (image_number image n)
     (rows_told (λ v. (run_ready v setup ch t budget image n slave master).result.refusal) (λ r. refl)
-    (unsound setup ch ∷ other_length setup (length slave) (length master) ∷ []) more Accepted refl
+    (unsound setup ch ∷ other_length setup (length slave) (length master) ∷ []) more accepted refl
     (run_room (ltb steps_most budget) (leb image_most (length image)) _ _ _ refl refl refl))
 
 -- why a level waits
-pub why_number : (setup : Setup) (ch : Channel) (l : ℕ) → verdict_number (why_of setup ch l).verdict ≡ first_number (why_rows setup ch)
+pub why_number : (setup : Setup) (ch : Channel) (l : ℕ) → verdict_number (why_of setup ch l) ≡ first_number (why_rows setup ch)
 unfolding why_of
-why_number setup ch l = rows_number (why_rows setup ch) [] Accepted refl refl
+why_number setup ch l = by_test (not (is_framed setup && is_sound setup ch)) (λ t. rw t) (λ f. rw f)
+
+told_number : (told : Result Reason Refusal) → (told_by told).refusal ≡ verdict_number told
+told_number (Ok reason) = refl
+told_number (Err why) = refl
 
 pub why_call_number : (image : List ℕ) (n l : ℕ) → (lobrinkas_why image n l).refusal ≡ first_number (why_call_rows image n)
 unfolding lobrinkas_why
 why_call_number image n l =
-    let setup = (read_image image n).setup in
-    let ch = (read_image image n).channel in
-    over_image (λ v. (why_by v setup ch l).refusal) (λ r. refl) (read_image image n).verdict (malformed_image image n).1 (why_rows setup ch) (image_number image n)
-    (why_number setup ch l)
+    let setup = imaged_setup (read_image image n) in
+    let ch = imaged_channel (read_image image n) in
+    over_image (λ v. (why_by v setup ch l).refusal) (λ r. refl) (imaged_verdict (read_image image n)) (malformed_image image n).1 (why_rows setup ch) (image_number image n)
+    (told_number (why_of setup ch l) ∙ why_number setup ch l)

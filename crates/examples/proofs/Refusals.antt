@@ -14,12 +14,10 @@ use contract.Monad.{Fun, fact, fact_mono}
 use contract.Lifetimes.{Lfts}
 use denote.Triple.Entry.{Args, Res}
 use denote.Triple.Clauses.{Ended, Lasts, at_exit}
+use Rattle.refusal.specs.declared.Refusal.{Refusal}
+use Rattle.std.specs.Prelude.{ℕ, Ok, Result}
 use Rattle.refusal.specs.Refusal.{verdict_number}
-use Rattle.refusal.specs.declared.Verdict.{Verdict}
-use Rattle.number.specs.declared.NumberRead.{NumberRead}
-use Rattle.number.specs.declared.NumberWritten.{NumberWritten}
-use Rattle.number.specs.Number.{read_number, reading_numbers, bytes_of, write_number, writing_numbers}
-use Rattle.cycle.specs.declared.Counted.{Counted}
+use Rattle.number.specs.Number.{NumberRead, NumberWritten, read_number, reading_numbers, bytes_of, write_number, writing_numbers}
 use Rattle.channel.specs.declared.Judged.{Judged}
 use Rattle.channel.specs.Channel.{Shaped}
 use Rattle.step.specs.declared.Plan.{Plan}
@@ -30,21 +28,21 @@ use Rattle.step.specs.declared.Logged.{Logged}
 use Rattle.step.specs.Step.{plan_numbers, step_numbers, decision_of}
 use Rattle.step.specs.Run.{world}
 use Rattle.step.specs.Log.{page}
-use Rattle.sheet.specs.declared.SheetAnswer.{SheetAnswer}
 use Rattle.numbers.specs.declared.Taken.{Taken}
-use Rattle.numbers.specs.Numbers.{list_at, number_at, number_between, numbers_at, part_numbers, numbers_of, all_bytes, copy_numbers, write_numbers}
+use Rattle.numbers.specs.Numbers.{Part, ◌>>=◌, list_at, number_at, number_between, numbers_at, part_numbers, numbers_of, all_bytes}
+use Rattle.frame.specs.declared.Setup.{Setup}
 use Rattle.sheet.specs.declared.RowsRead.{RowsRead}
-use Rattle.sheet.specs.Sheet.{sheet as judged, head_of, read_sheet, write_sheet, sheet_numbers}
+use Rattle.sheet.specs.Sheet.{SheetAnswer, sheet as judged, head_of, read_sheet, write_sheet, sheet_numbers}
 use Rattle.image.specs.declared.ChannelRead.{ChannelRead}
-use Rattle.image.specs.declared.Imaged.{Imaged}
 use Rattle.image.specs.Layout.{channel_numbers}
-use Rattle.image.specs.Image.{read_setup, read_channel, write_channel}
+use Rattle.image.specs.Read.{Read}
+use Rattle.image.specs.Image.{Imaged, imaged_verdict, read_setup, read_channel, write_channel}
 use Rattle.lobrinkas.specs.declared.Answer.{Answer}
 use Rattle.lobrinkas.specs.declared.Stepped.{Stepped as StepCall}
 use Rattle.lobrinkas.specs.declared.Ran.{Ran as RunCall}
 use Rattle.lobrinkas.specs.declared.Counted.{Counted as CountCall}
 use Rattle.lobrinkas.specs.declared.Told.{Told as WhyCall}
-use Rattle.why.specs.declared.Told.{Told}
+use Rattle.why.specs.declared.Reason.{Reason}
 use Rattle.lobrinkas.specs.Calls.{order}
 use Rattle.number.specs.contracts as number
 use Rattle.numbers.specs.contracts as numbers
@@ -88,6 +86,7 @@ use Rattle.examples.proofs.NumberLaws.{
   request_number,
   post_number,
   count_number,
+  count_call_number,
   ready_number,
   plan_number,
   step_number,
@@ -105,6 +104,10 @@ use Rattle.examples.proofs.NumberLaws.{
   why_number,
   why_call_number,
 }
+
+-- the part that was read
+abbrev read_part : {A : Type 0} → Read A → Part
+read_part read = read >>= λ x. Ok x.1
 
 module _ {M : Type 1} {𝓤 : Ura M} (𝓛 : Logic 𝓤) (mem : Memory → SProp 𝓤) (call : Routine → Fun 𝓤) where
   -- a contract tells something of its result
@@ -143,19 +146,19 @@ module _ {M : Type 1} {𝓤 : Ura M} (𝓛 : Logic 𝓤) (mem : Memory → SProp
       alone _ (λ (r : Judged). verdict_number r.verdict ≡ _) (post_number a.0 a.1.0 a.1.1.0) r
 
   of_request_verdict : Tells sound.request_verdict.ended sound.request_verdict.clauses
-      (λ κs a (r : Verdict). verdict_number r ≡ first_number (request_rows a.0 a.1.1.0))
-  of_request_verdict κs a g r ws = alone _ (λ (r : Verdict). verdict_number r ≡ _) (request_number a.0 a.1.0 a.1.1.0) r
+      (λ κs a (r : Result Unit Refusal). verdict_number r ≡ first_number (request_rows a.0 a.1.1.0))
+  of_request_verdict κs a g r ws = alone _ (λ (r : Result Unit Refusal). verdict_number r ≡ _) (request_number a.0 a.1.0 a.1.1.0) r
 
   of_cycle_count : Tells cycle.cycle_count.ended cycle.cycle_count.clauses
-      (λ κs a (r : Counted). verdict_number r.verdict ≡ first_number (count_rows a.0 a.1.0 a.1.1.0 a.1.1.1.0))
+      (λ κs a (r : Result ℕ Refusal). verdict_number r ≡ first_number (count_rows a.0 a.1.0 a.1.1.0 a.1.1.1.0))
   of_cycle_count κs a g r ws =
-      alone _ (λ (r : Counted). verdict_number r.verdict ≡ _) (count_number a.0 a.1.0 a.1.1.0 a.1.1.1.0) r
+      alone _ (λ (r : Result ℕ Refusal). verdict_number r ≡ _) (count_number a.0 a.1.0 a.1.1.0 a.1.1.1.0) r
 
   of_ready_verdict : Tells step.ready_verdict.ended step.ready_verdict.clauses
-      (λ κs a (r : Verdict).
+      (λ κs a (r : Result Unit Refusal).
       verdict_number r ≡ first_number (unsound a.0 a.1.0 ∷ other_length a.0 a.1.1.0 a.1.1.1.0 ∷ []))
   of_ready_verdict κs a g r ws =
-      alone _ (λ (r : Verdict). verdict_number r ≡ _) (ready_number a.0 a.1.0 a.1.1.0 a.1.1.1.0) r
+      alone _ (λ (r : Result Unit Refusal). verdict_number r ≡ _) (ready_number a.0 a.1.0 a.1.1.0 a.1.1.1.0) r
 
   of_plan_of : Tells step.plan_of.ended step.plan_of.clauses
       (λ κs a (r : Plan). first (plan_numbers r) ≡ first_number (step_rows a.0 a.1.0 a.1.1.0 a.1.1.1.0))
@@ -217,18 +220,18 @@ module _ {M : Type 1} {𝓤 : Ura M} (𝓛 : Logic 𝓤) (mem : Memory → SProp
       (λ κs a (r : NumberRead). reading_numbers r ≡ reading_numbers (read_number a.0.now a.1.0))
   of_read_number κs a g r ws = alone _ (λ (r : NumberRead). reading_numbers r ≡ reading_numbers (read_number a.0.now a.1.0)) refl r
 
-  of_number_at : Tells numbers.number_at.ended numbers.number_at.clauses
-      (λ κs a (r : NumberRead). reading_numbers r ≡ reading_numbers (number_at a.1.1.0 a.0.now a.1.0.now a.1.1.1.0))
+  of_number_at : Tells numbers.Source.number_at.ended numbers.Source.number_at.clauses
+      (λ κs a (r : NumberRead). reading_numbers r ≡ reading_numbers (number_at a.0 a.1.0))
   of_number_at κs a g r ws = alone _ (λ (r : NumberRead). reading_numbers r ≡ _) refl r
 
-  of_number_between : Tells numbers.number_between.ended numbers.number_between.clauses
+  of_number_between : Tells numbers.Source.number_between.ended numbers.Source.number_between.clauses
       (λ κs a (r : NumberRead). reading_numbers r ≡ reading_numbers
-      (number_between (number_at a.1.1.0 a.0.now a.1.0.now) a.1.1.1.0 a.1.1.1.1.0 a.1.1.1.1.1.0 a.1.1.1.1.1.1.0))
+      (number_between (number_at a.0) a.1.0 a.1.1.0 a.1.1.1.0 a.1.1.1.1.0))
   of_number_between κs a g r ws = alone _ (λ (r : NumberRead). reading_numbers r ≡ _) refl r
 
-  of_numbers_at : Tells numbers.numbers_at.ended numbers.numbers_at.clauses
+  of_numbers_at : Tells numbers.Source.numbers_at.ended numbers.Source.numbers_at.clauses
       (λ κs a (r : Taken). part_numbers r.part
-      ≡ part_numbers (numbers_at (number_at a.1.1.0 a.0.now a.1.0.now) a.1.1.1.0 a.1.1.1.1.0).part)
+      ≡ part_numbers (numbers_at (number_at a.0) a.1.0 a.1.1.0).part)
   of_numbers_at κs a g r ws = alone _ (λ (r : Taken). part_numbers r.part ≡ _) refl r
 
   of_head : Tells sheet.head_of.ended sheet.head_of.clauses (λ κs a (r : RowsRead). part_numbers r.part ≡ part_numbers (head_of a.0.now).part)
@@ -242,13 +245,11 @@ module _ {M : Type 1} {𝓤 : Ura M} (𝓛 : Logic 𝓤) (mem : Memory → SProp
 
   of_copy_numbers : Tells numbers.copy_numbers.ended numbers.copy_numbers.clauses
       (λ κs a (r : NumberWritten). writing_numbers r ≡ written_told a.1.0.now 0 (numbers_of a.0.now))
-  unfolding copy_numbers
   of_copy_numbers κs a g r ws =
       lent_one _ (λ (r : NumberWritten). writing_numbers r ≡ _) (written_told_lem a.1.0.now 0 (numbers_of a.0.now)) r _
 
   of_write_numbers : Tells numbers.write_numbers.ended numbers.write_numbers.clauses
       (λ κs a (r : NumberWritten). writing_numbers r ≡ written_told a.1.0.now a.1.1.0 (all_bytes a.0.now))
-  unfolding write_numbers
   of_write_numbers κs a g r ws =
       lent_one _ (λ (r : NumberWritten). writing_numbers r ≡ _) (written_told_lem a.1.0.now a.1.1.0 (all_bytes a.0.now)) r _
 
@@ -270,20 +271,20 @@ module _ {M : Type 1} {𝓤 : Ura M} (𝓛 : Logic 𝓤) (mem : Memory → SProp
 
   -- the parts of an image have the faults of `read_setup` and `read_channel`, with their places; an image as a whole has 18 for each of them
   of_read_setup : Tells image.read_setup.ended image.read_setup.clauses
-      (λ κs a (r : RowsRead). part_numbers r.part ≡ part_numbers (read_setup a.0.now a.1.0).part)
-  of_read_setup κs a g r ws = alone _ (λ (r : RowsRead). part_numbers r.part ≡ _) refl r
+      (λ κs a (r : Read Setup). part_numbers (read_part r) ≡ part_numbers (read_part (read_setup a.0.now a.1.0)))
+  of_read_setup κs a g r ws = alone _ (λ (r : Read Setup). part_numbers (read_part r) ≡ _) refl r
 
   of_read_channel : Tells image.read_channel.ended image.read_channel.clauses
       (λ κs a (r : ChannelRead). part_numbers r.part ≡ part_numbers (read_channel a.0.now a.1.0 a.1.1.0).part)
   of_read_channel κs a g r ws = alone _ (λ (r : ChannelRead). part_numbers r.part ≡ _) refl r
 
   of_read_image : Tells image.read_image.ended image.read_image.clauses
-      (λ κs a (r : Imaged). verdict_number r.verdict ≡ first_number (malformed_image a.0.now a.1.0 ∷ []))
-  of_read_image κs a g r ws = alone _ (λ (r : Imaged). verdict_number r.verdict ≡ _) (image_number a.0.now a.1.0) r
+      (λ κs a (r : Imaged). verdict_number (imaged_verdict r) ≡ first_number (malformed_image a.0.now a.1.0 ∷ []))
+  of_read_image κs a g r ws = alone _ (λ (r : Imaged). verdict_number (imaged_verdict r) ≡ _) (image_number a.0.now a.1.0) r
 
   of_read_head : Tells image.read_head.ended image.read_head.clauses
-      (λ κs a (r : Imaged). verdict_number r.verdict ≡ first_number (malformed_head a.0.now a.1.0 ∷ []))
-  of_read_head κs a g r ws = alone _ (λ (r : Imaged). verdict_number r.verdict ≡ _) (head_number a.0.now a.1.0) r
+      (λ κs a (r : Imaged). verdict_number (imaged_verdict r) ≡ first_number (malformed_head a.0.now a.1.0 ∷ []))
+  of_read_head κs a g r ws = alone _ (λ (r : Imaged). verdict_number (imaged_verdict r) ≡ _) (head_number a.0.now a.1.0) r
 
   of_write_channel : Tells image.write_channel.ended image.write_channel.clauses
       (λ κs a (r : NumberWritten). writing_numbers r ≡ written_told a.1.0.now a.1.1.0 (all_bytes (channel_numbers a.0)))
@@ -328,11 +329,11 @@ module _ {M : Type 1} {𝓤 : Ura M} (𝓛 : Logic 𝓤) (mem : Memory → SProp
   of_c_cycle_count : Tells lobrinkas.lobrinkas_cycle_count.ended lobrinkas.lobrinkas_cycle_count.clauses
       (λ κs a (r : CountCall). r.refusal ≡ first_number (count_rows a.0 a.1.0 a.1.1.0 a.1.1.1.0))
   of_c_cycle_count κs a g r ws =
-      alone _ (λ (r : CountCall). r.refusal ≡ _) (count_number a.0 a.1.0 a.1.1.0 a.1.1.1.0) r
+      alone _ (λ (r : CountCall). r.refusal ≡ _) (count_call_number a.0 a.1.0 a.1.1.0 a.1.1.1.0) r
 
   -- why a level waits
-  of_why : Tells why.why.ended why.why.clauses (λ κs a (r : Told). verdict_number r.verdict ≡ first_number (why_rows a.0 a.1.0))
-  of_why κs a g r ws = alone _ (λ (r : Told). verdict_number r.verdict ≡ _) (why_number a.0 a.1.0 a.1.1.0) r
+  of_why : Tells why.why.ended why.why.clauses (λ κs a (r : Result Reason Refusal). verdict_number r ≡ first_number (why_rows a.0 a.1.0))
+  of_why κs a g r ws = alone _ (λ (r : Result Reason Refusal). verdict_number r ≡ _) (why_number a.0 a.1.0 a.1.1.0) r
 
   of_c_why : Tells lobrinkas.lobrinkas_why.ended lobrinkas.lobrinkas_why.clauses
       (λ κs a (r : WhyCall). r.refusal ≡ first_number (why_call_rows a.0.now a.1.0))

@@ -5,11 +5,11 @@ use mathlib.Core.Bool.{Bool, true, false, ◌&&◌}
 use mathlib.Core.List.{List, [], ◌∷◌}
 use lib.ListN.{length}
 use lib.Dec.{eqb}
-use Rattle.refusal.specs.Refusal.{refusal_number, verdict_number}
+use Rattle.refusal.specs.Refusal.{refusal_number}
+use Rattle.refusal.specs.declared.Refusal.{Refusal}
 use Rattle.cycle.specs.Cycle.{cycle_count, is_length, is_width, is_port, narrower_of, cycles, cycles_up_to}
-use Rattle.number.specs.declared.NumberRead.{NumberRead}
-use Rattle.number.specs.declared.NumberRead.TheVariants.{Number, Refused}
-use Rattle.number.specs.Number.{read_number, bytes_of}
+use Rattle.std.specs.Prelude.{Result, Ok, Err}
+use Rattle.number.specs.Number.{NumberRead, Number, read_number, bytes_of}
 
 data Row : Type 0 where
   -- "Cycles for (a, n, W, P)", and their number
@@ -44,18 +44,22 @@ same (x ∷ xs) (y ∷ ys) = eqb x y && same xs ys
 -- this value was read, up to the place past it
 says_number : ℕ → ℕ → NumberRead → Bool
 says_number v past (Number w next) = eqb w v && eqb next past
-says_number v past (Refused why place) = false
+says_number v past (Err f) = false
 
 -- this refusal, at the start of the bytes
 says_refused : ℕ → NumberRead → Bool
 says_refused n (Number w next) = false
-says_refused n (Refused why place) = eqb (refusal_number why) n && eqb place 0
+says_refused n (Err f) = eqb (refusal_number f.why) n && eqb f.place 0
+
+-- this count, and no refusal
+says_count : ℕ → Result ℕ Refusal → Bool
+says_count count (Ok cycles) = eqb cycles count
+says_count count (Err why) = false
 
 -- the count is given and not refused, and the rule makes as many cycles one after the other
 holds : Row → Bool
 holds (counts a n w p count) =
-    eqb (cycle_count a n w p).cycles count
-    && (eqb (verdict_number (cycle_count a n w p).verdict) 0 && eqb (length (cycles (narrower_of w p) a n)) count)
+    says_count count (cycle_count a n w p) && eqb (length (cycles (narrower_of w p) a n)) count
 holds (is v bytes) = same (bytes_of v) bytes && says_number v (length bytes) (read_number bytes 0)
 holds (gives bytes n) = says_refused n (read_number bytes 0)
 
@@ -65,5 +69,5 @@ right (row ∷ more) = holds row && right more
 
 -- every starred example holds of the definitions
 starred : right rows ≡ true
-unfolding right rows holds same says_number says_refused cycle_count is_length is_width is_port cycles_up_to read_number bytes_of
+unfolding right rows holds same says_count says_number says_refused cycle_count is_length is_width is_port cycles_up_to read_number bytes_of
 starred = refl

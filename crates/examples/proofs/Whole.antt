@@ -34,7 +34,6 @@ use Rattle.frame.specs.Rows.{is_present, level_of}
 use Rattle.frame.specs.Find.{level_index, level_row, row_holds, slave_index, slave_row, slave_store_length, store_place}
 use Rattle.channel.specs.declared.Phase.{Phase}
 use Rattle.channel.specs.declared.Phase.TheVariants.{Arbitrating, Granted}
-use Rattle.channel.specs.declared.Asked.TheVariants.{Never}
 use Rattle.channel.specs.declared.Channel.{Channel}
 use Rattle.channel.specs.Channel.{fresh_channel, has_request, with_request, changed, request_of}
 use Rattle.channel.specs.Line.{waits, drives, line_active, asks, others_ask, clear_marks, set_asked, winner_from}
@@ -77,7 +76,7 @@ use Rattle.step.specs.Step.{step_of, carry_of, moved_slave, moved_master, slave_
 use Rattle.step.specs.Run.{World, world, world_after, run_from, run_of}
 use Rattle.act.specs.Entry.{cycle_fields}
 use Rattle.number.specs.Number.{read_number, bytes_of}
-use Rattle.numbers.specs.declared.Part.TheVariants.{Good}
+use Rattle.std.specs.Prelude.{Ok, None}
 use Rattle.numbers.specs.Numbers.{list_at, number_between, numbers_of, all_bytes}
 use Rattle.sheet.specs.Sheet.{counted_rows, head, head_of, step_count, event, counted_events, body, sheet}
 use Rattle.sheetlist.specs.Held.{
@@ -121,7 +120,7 @@ bytes (text ∷ lines) = codes text ++ bytes lines
 -- the sheet is good to its end; it has these numbers, and they are written as these bytes; they hold this set-up and these events, the last of which
 -- ends where the list ends; and this is what sheetrun prints
 record Whole : Type 0 where
-  good : sheet (read_number input) (length input) ≡ Good 40
+  good : sheet (read_number input) (length input) ≡ Ok 40
   read : numbers_of input ≡ list
   written : all_bytes list ≡ input
   held : setup_of list 4096 ≡ setup
@@ -132,7 +131,7 @@ record Whole : Type 0 where
 -- the fresh channel but for its phase, whether it was ever granted, its clock and its marks; one that is arbitrating, without marks; and one that has a
 -- mark at level 3 while level 7 waits
 abbrev standing : Phase → Bool → ℕ → List Bool → Channel
-standing phase ever clock marks = changed fresh_channel phase Never ever clock marks
+standing phase ever clock marks = changed fresh_channel phase None ever clock marks
 
 abbrev arbitrating : Bool → ℕ → Channel
 arbitrating ever clock = standing Arbitrating ever clock fresh_channel.inactive
@@ -188,7 +187,7 @@ record Waits : Type 0 where
   inactive : told (Post first ∷ Steps 2 ∷ Post second ∷ Steps 1 ∷ []) 3 ≡ reason.Inactive
   inactive_held : told (Post first ∷ Steps 2 ∷ Post second ∷ Post (order_by 15 0 1 4104 2 32) ∷ Steps 2 ∷ []) 3 ≡ reason.Inactive
   -- an unsound channel is refused by 9, of whatever level
-  unsound : verdict_number (why_of setup (standing (Granted 15) false 0 fresh_channel.inactive) 271).verdict ≡ 9
+  unsound : verdict_number (why_of setup (standing (Granted 15) false 0 fresh_channel.inactive) 271) ≡ 9
   -- and what the owner of a card reads
   words : told_text 3 630 9 (reason.Outranked 3) ≡ codes "event 3, 630 ns, level 9: outranked; level 3 wins next"
 

@@ -1,7 +1,6 @@
 -- The sheet of document 01 as a history of posts and steps: where it starts, its acts, and the entries of its log.
-use Rattle.std.specs.Prelude.{ℕ, List, [], ◌∷◌, ◌++◌, replicate}
+use Rattle.std.specs.Prelude.{ℕ, List, [], ◌∷◌, ◌++◌, replicate, None}
 use Rattle.channel.specs.Channel.{fresh_channel}
-use Rattle.act.specs.declared.Hold.TheVariants.{Unasked}
 use Rattle.act.specs.declared.Ending.{Ending}
 use Rattle.act.specs.declared.Ending.TheVariants.{Kept, Released, Marked}
 use Rattle.act.specs.declared.Entry.{Entry}
@@ -63,6 +62,6 @@ entries =
     ∷ cycle_by 830 7 4096 2 0 0 0 (Marked 200)
     ∷ Grant 960 3
     ∷ cycle_by 1160 3 4100 2 1 0 0 Kept
-    ∷ cycle_by 1360 3 4102 2 1 2 0 (Released Unasked)
+    ∷ cycle_by 1360 3 4102 2 1 2 0 (Released None)
     ∷ Grant 1490 15
     ∷ []

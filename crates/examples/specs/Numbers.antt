@@ -1,7 +1,7 @@
 -- Document 01, "Refusal numbers": "No. | Given exactly when", the table's 1 to 9 in one place, a list of rows for each call in the order that the paper gives:
 -- "9 first, then 8, then 7, then the rest by number"; and 17. "10 to 17: sheet, below": 10 to 16 stand, by their numbers, in number/Number and sheet/Sheet.
 -- Document 02, CR 1, adds 18 and the calls over an image, at the end, and CR 3 the question why a level waits. That the calls' promises give these numbers is shown in proofs/Refusals.
-use Rattle.std.specs.Prelude.{ℕ, ◌+◌, Bool, true, false, cond, not, ◌&&◌, List, [], ◌∷◌, ◌++◌, eqb, leb, ltb, length}
+use Rattle.std.specs.Prelude.{ℕ, ◌+◌, Bool, true, false, cond, not, ◌&&◌, List, [], ◌∷◌, ◌++◌, eqb, leb, ltb, length, Result, Ok, Err}
 use Rattle.refusal.specs.Refusal.{refusal_number}
 use Rattle.basics.specs.Limits.{clock_limit, memory_end, steps_most}
 use Rattle.cycle.specs.Cycle.{is_length, is_width, is_port}
@@ -25,10 +25,10 @@ use Rattle.tally.specs.declared.Tally.{Tally}
 use Rattle.step.specs.Step.{step_of}
 use Rattle.step.specs.Run.{World, run_of}
 use Rattle.step.specs.Log.{Page, LoggedOut, log_run_of}
-use Rattle.numbers.specs.declared.Part.{Part}
-use Rattle.numbers.specs.declared.Part.TheVariants.{Good, Fault}
+use Rattle.number.specs.declared.Fault.{Fault}
+use Rattle.numbers.specs.Numbers.{Part}
 use Rattle.image.specs.Layout.{image_bytes, image_most}
-use Rattle.image.specs.Image.{read_setup, read_channel, read_image, head_bytes, read_head}
+use Rattle.image.specs.Image.{read_setup, read_channel, read_image, head_bytes, read_head, imaged_setup, imaged_channel}
 
 -- a row: the number, and whether what the paper says of it is so
 abbrev pub RefusalRow : Type 0
@@ -96,16 +96,16 @@ written_told s at what = cond (leb (at + length what) (length s)) (0 ∷ (at + l
 
 -- "17 comes last": of a judged sheet the length of the result, or the number and the place of its fault
 abbrev pub sheet_told : Part → ℕ → ℕ → List ℕ
-sheet_told (Good end) need room = cond (leb need room) (0 ∷ need ∷ []) (17 ∷ 0 ∷ [])
-sheet_told (Fault why place) need room = refusal_number why ∷ place ∷ []
+sheet_told (Ok end) need room = cond (leb need room) (0 ∷ need ∷ []) (17 ∷ 0 ∷ [])
+sheet_told (Err f) need room = refusal_number f.why ∷ f.place ∷ []
 
 -- Document 02, CR 1: "18 for a malformed image, before 9; 17 as in the sheet". The bytes are an image where both its parts are good, and nothing follows them
-abbrev pub is_good_then : Part → (ℕ → Bool) → Bool
-is_good_then (Good at) f = f at
-is_good_then (Fault why place) f = false
+abbrev pub is_good_then : {A : Type 0} → Result A Fault → (A → Bool) → Bool
+is_good_then (Ok x) f = f x
+is_good_then (Err x) f = false
 
 abbrev pub is_image : List ℕ → ℕ → Bool
-is_image bytes n = is_good_then (read_setup bytes n).part (λ start. is_good_then (read_channel bytes n start).part (λ end. true))
+is_image bytes n = is_good_then (read_setup bytes n) (λ head. is_good_then (read_channel bytes n head.1).part (λ end. true))
 
 abbrev pub malformed_image : List ℕ → ℕ → RefusalRow
 malformed_image bytes n = (18, not (is_image bytes n))
@@ -114,7 +114,7 @@ malformed_image bytes n = (18, not (is_image bytes n))
 abbrev pub is_head : List ℕ → ℕ → Bool
 is_head list master =
     let bytes = head_bytes list master in
-    is_good_then (read_setup bytes (length bytes)).part (λ end. not (ltb end (length bytes)))
+    is_good_then (read_setup bytes (length bytes)) (λ head. not (ltb head.1 (length bytes)))
 
 abbrev pub malformed_head : List ℕ → ℕ → RefusalRow
 malformed_head list master = (18, not (is_head list master))
@@ -130,28 +130,28 @@ no_image_room setup ch image = (17, not (leb (length (image_bytes setup ch)) (le
 -- 18 9 17
 abbrev pub set_up_call_rows : List ℕ → List ℕ → ℕ → List RefusalRow
 set_up_call_rows image list master =
-    let setup = (read_head list master).setup in malformed_head list master ∷ broken setup ∷ no_image_room setup fresh_channel image ∷ []
+    let setup = imaged_setup (read_head list master) in malformed_head list master ∷ broken setup ∷ no_image_room setup fresh_channel image ∷ []
 
 -- 18 9 1 2 3 4 5 17
 abbrev pub post_call_rows : List ℕ → ℕ → Order → List RefusalRow
 post_call_rows image n p =
-    let setup = (read_image image n).setup in
-    let ch = (read_image image n).channel in
+    let setup = imaged_setup (read_image image n) in
+    let ch = imaged_channel (read_image image n) in
     malformed_image image n ∷ (post_rows setup ch p ++ (no_image_room setup (post_of setup ch p).channel image ∷ []))
 
 -- 18 9 8 6 17
 abbrev pub step_call_rows : List ℕ → ℕ → List ℕ → List ℕ → Tally → List RefusalRow
 step_call_rows image n slave master t =
-    let setup = (read_image image n).setup in
-    let ch = (read_image image n).channel in
+    let setup = imaged_setup (read_image image n) in
+    let ch = imaged_channel (read_image image n) in
     malformed_image image n
     ∷ (step_rows setup ch (length slave) (length master) ++ (no_image_room setup (step_of setup ch t slave master).channel image ∷ []))
 
 -- 18 9 8 7 17: a run's last image isn't known before, so there has to be room for the longest. Its 6 is no refusal
 abbrev pub run_call_rows : List ℕ → ℕ → List ℕ → List ℕ → ℕ → List RefusalRow
 run_call_rows image n slave master budget =
-    let setup = (read_image image n).setup in
-    malformed_image image n ∷ unsound setup (read_image image n).channel ∷ other_length setup (length slave) (length master) ∷ (7, ltb steps_most budget)
+    let setup = imaged_setup (read_image image n) in
+    malformed_image image n ∷ unsound setup (imaged_channel (read_image image n)) ∷ other_length setup (length slave) (length master) ∷ (7, ltb steps_most budget)
     ∷ (17, not (leb image_most (length image))) ∷ []
 
 -- document 02, CR 3: "Refusals: 9 as before."; over an image 18 9
@@ -159,4 +159,4 @@ abbrev pub why_rows : Setup → Channel → List RefusalRow
 why_rows setup ch = unsound setup ch ∷ []
 
 abbrev pub why_call_rows : List ℕ → ℕ → List RefusalRow
-why_call_rows image n = malformed_image image n ∷ why_rows (read_image image n).setup (read_image image n).channel
+why_call_rows image n = malformed_image image n ∷ why_rows (imaged_setup (read_image image n)) (imaged_channel (read_image image n))

@@ -1,5 +1,7 @@
 -- Document 01, "One sheet, whole": what the program sheetrun prints for the bytes of a sheet.
-use Rattle.std.specs.Prelude.{ℕ, zero, suc, List, [], ◌∷◌, ◌++◌, length}
+use Rattle.act.specs.declared.Entry.{Entry}
+use Rattle.refusal.specs.declared.Refusal.{Refusal}
+use Rattle.std.specs.Prelude.{ℕ, zero, suc, List, [], ◌∷◌, ◌++◌, length, Ok, Err, Result}
 use Rattle.refusal.specs.Refusal.{refusal_number, verdict_number}
 use Rattle.number.specs.Number.{read_number}
 use Rattle.frame.specs.declared.Setup.{Setup}
@@ -8,13 +10,9 @@ use Rattle.channel.specs.declared.Judged.{Judged}
 use Rattle.channel.specs.Channel.{fresh_channel}
 use Rattle.post.specs.Post.{post_of}
 use Rattle.tally.specs.Tally.{no_tally}
-use Rattle.step.specs.declared.StepAnswer.{StepAnswer}
-use Rattle.step.specs.declared.StepAnswer.TheVariants.{Done, Refused}
 use Rattle.step.specs.Run.{World, world, step_in, world_after}
 use Rattle.logline.specs.Line.{entry_text, post_text, stop_text, end_text, fault_text}
-use Rattle.numbers.specs.declared.Part.{Part}
-use Rattle.numbers.specs.declared.Part.TheVariants.{Good, Fault}
-use Rattle.numbers.specs.Numbers.{numbers_of}
+use Rattle.numbers.specs.Numbers.{Part, numbers_of}
 use Rattle.sheet.specs.Sheet.{sheet}
 use Rattle.sheetlist.specs.declared.Event.{Event}
 use Rattle.sheetlist.specs.declared.Event.TheVariants.{Steps, Post}
@@ -30,9 +28,9 @@ abbrev pub printed : List ℕ → World → Printed
 printed text w = record { text = text; world = w }
 
 -- a step has the line of its entry; "X clock 6 (the event ends there, the next goes on)"
-abbrev pub step_then : StepAnswer → World → Printed → Printed
-step_then (Done entry) w rest = printed (entry_text entry ++ rest.text) rest.world
-step_then (Refused why) w rest = printed (stop_text w.channel.clock) w
+abbrev pub step_then : Result Entry Refusal → World → Printed → Printed
+step_then (Ok entry) w rest = printed (entry_text entry ++ rest.text) rest.world
+step_then (Err why) w rest = printed (stop_text w.channel.clock) w
 
 abbrev pub steps_print : Setup → ℕ → World → Printed
 steps_print setup zero w = printed [] w
@@ -75,8 +73,8 @@ list_print list = events_print (setup_of list 4096) (events_of list) (begun (set
 
 -- "A bad sheet prints only S, number, place."
 abbrev pub verdict_print : Part → List ℕ → List ℕ
-verdict_print (Good end) list = list_print list
-verdict_print (Fault why place) list = fault_text (refusal_number why) place
+verdict_print (Ok end) list = list_print list
+verdict_print (Err f) list = fault_text (refusal_number f.why) f.place
 
 unfoldable pub sheet_print : List ℕ → List ℕ
 sheet_print bytes = verdict_print (sheet (read_number bytes) (length bytes)) (numbers_of bytes)

@@ -12,14 +12,12 @@ use lib.Dec.{eqb, ltb}
 use Rattle.basics.specs.Limits.{places}
 use Rattle.basics.proofs.Tests.{by_test}
 use Rattle.refusal.specs.Refusal.{refusal_by}
-use Rattle.number.specs.declared.NumberRead.TheVariants.{Number}
-use Rattle.numbers.specs.Numbers.{Source, passed, numbers}
-use Rattle.numbers.specs.declared.Part.TheVariants.{Good}
+use Rattle.std.specs.Prelude.{Ok, None, Option, Some}
+use Rattle.number.specs.Number.{Number}
+use Rattle.numbers.specs.Numbers.{Reading, passed, numbers}
 use Rattle.numbers.proofs.Spelt.{Spells, spells_as, spells_first, spells_none, spells_split, spelt_passed, spelt_numbers, ranged_by}
 use Rattle.channel.specs.declared.Phase.{Phase}
 use Rattle.channel.specs.declared.Phase.TheVariants.{Arbitrating, Granted}
-use Rattle.channel.specs.declared.Asked.{Asked}
-use Rattle.channel.specs.declared.Asked.TheVariants.{Never, At}
 use Rattle.channel.specs.declared.Channel.{Channel}
 use Rattle.channel.specs.declared.Request.{Request}
 use Rattle.channel.specs.Channel.{request_of, no_request, with_request, changed, fresh_channel, Shaped}
@@ -29,7 +27,6 @@ use Rattle.image.specs.Read.{
   phase_of,
   marks_of,
   marks_most,
-  asked_read,
   time_at,
   asked_at,
   channel_read,
@@ -52,14 +49,14 @@ phase_is : (phase : Phase) → phase_of (phase_number phase) ≡ phase
 phase_is Arbitrating = refl
 phase_is (Granted owner) = rw (add-one owner)
 
-module _ (src : Source) where
+module _ (src : Reading) where
   -- the asked time
-  asked_read_lem : (asked : Asked) (at : ℕ) {end : ℕ} → Spells src at (asked_numbers asked) end → asked_at src at ≡ asked_read asked (Good end)
+  asked_read_lem : (asked : Option ℕ) (at : ℕ) {end : ℕ} → Spells src at (asked_numbers asked) end → asked_at src at ≡ Ok (asked, end)
   unfolding asked_at time_at
-  asked_read_lem Never at s =
+  asked_read_lem None at s =
       let f = spells_first s in
       rw (ranged_by src 0 1 (refusal_by 18) at f.1 (omega arith) (omega arith), spells_none f.2)
-  asked_read_lem (At time) at s =
+  asked_read_lem (Some time) at s =
       let f = spells_first s in
       let t = spells_first f.2 in
       rw (ranged_by src 0 1 (refusal_by 18) at f.1 (omega arith) (omega arith), t.1, spells_none t.2)
@@ -70,7 +67,7 @@ module _ (src : Source) where
       → requests_at src (suc more) l own at ≡ requests_at src more (l + 1) (with_request own l q) mid
   unfolding requests_at
   request_read_lem more l own at q {next} {mid} r some s =
-      let good : passed src 4 next ≡ Good mid = spelt_passed s in
+      let good : passed src 4 next ≡ Ok mid = spelt_passed s in
       let read : numbers src 4 next ≡ q.direction ∷ q.space ∷ q.address ∷ q.offset ∷ [] = spelt_numbers s in
       rw (r, some, good, read)
 
@@ -80,7 +77,7 @@ module _ (src : Source) where
     begun = changed fresh_channel ch.phase ch.asked ch.ever ch.clock ch.inactive
 
     marks_read : (at : ℕ) {end : ℕ} → Spells src at (marks_numbers ch) end
-        → marks_at src ch.ever ch.clock ch.phase at ≡ channel_read begun (Good end)
+        → marks_at src ch.ever ch.clock ch.phase at ≡ Ok (begun, end)
     unfolding marks_at
     marks_read at s =
         let t = spells_split (asked_numbers ch.asked) s in
@@ -90,7 +87,7 @@ module _ (src : Source) where
         rw (asked_read_lem ch.asked at t.1, ranged_by src 0 marks_most (refusal_by 18) t.0 f.1 (omega arith) most, back, spells_none f.2)
 
     state_read : phase_number ch.phase ≤ places → (at : ℕ) {end : ℕ} → Spells src at (state_numbers ch) end
-        → state_at src at ≡ channel_read begun (Good end)
+        → state_at src at ≡ Ok (begun, end)
     unfolding state_at clock_at owner_at
     state_read owner at s =
         let e = spells_first s in
@@ -163,11 +160,11 @@ module _ (src : Source) where
       -- the requests of `more` places from level l on
       requests_read : (more l : ℕ) (own : Channel) (at : ℕ) {end : ℕ} → l + more ≡ places → Filled l own
           → Spells src at (requests_numbers ch more l) end
-          → requests_at src more l own at ≡ channel_read ch (Good end)
+          → requests_at src more l own at ≡ channel_read ch (Ok end)
       unfolding requests_at requests_numbers
       requests_read zero l own at all f s =
           let last : l ≡ places = omega arith in
-          ap₂ (λ (x : Channel) (e : ℕ). channel_read x (Good e)) (filled_all own (rw last at f)) (spells_none s)
+          ap₂ (λ (x : Channel) (e : ℕ). channel_read x (Ok e)) (filled_all own (rw last at f)) (spells_none s)
       requests_read (suc more) l own at all f s =
           let q = request_of ch l in
           let t = spells_split (request_numbers q) s in
@@ -185,7 +182,7 @@ module _ (src : Source) where
 
       -- The channel, where its numbers end no sooner than the image.
       pub channel_read_lem : phase_number ch.phase ≤ places → (len at : ℕ) {end : ℕ} → len ≤ end → Spells src at (channel_numbers ch) end
-          → channel_part_at src len at ≡ channel_read ch (Good end)
+          → channel_part_at src len at ≡ channel_read ch (Ok end)
       unfolding channel_part_at
       channel_read_lem owner len at {end} h s =
           let t = spells_split (state_numbers ch) (spells_as (sym (channel_parts ch)) s) in

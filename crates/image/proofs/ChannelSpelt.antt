@@ -13,23 +13,19 @@ use Rattle.basics.specs.Limits.{places}
 use Rattle.basics.proofs.Arrays.{replicate_at}
 use Rattle.basics.proofs.Tests.{by_test}
 use Rattle.refusal.specs.Refusal.{refusal_by}
-use Rattle.number.specs.declared.NumberRead.{NumberRead}
-use Rattle.number.specs.declared.NumberRead.TheVariants.{Number, Refused}
-use Rattle.numbers.specs.Numbers.{Source, passed, numbers}
-use Rattle.numbers.specs.declared.Part.{Part}
-use Rattle.numbers.specs.declared.Part.TheVariants.{Good, Fault}
+use Rattle.std.specs.Prelude.{Result, Ok, Err, None, Option, Some}
+use Rattle.number.specs.declared.Fault.{Fault}
+use Rattle.number.specs.Number.{Number}
+use Rattle.numbers.specs.Numbers.{Reading, passed, numbers}
 use Rattle.numbers.proofs.Laws.{in_range_lem}
 use Rattle.numbers.proofs.Parts.{no_good, at_good}
 use Rattle.numbers.proofs.Spelt.{Spells, spells_one, spells_as, spells_append, passed_spells, passed_many}
 use Rattle.numbers.proofs.Spelt.Spells.{done, then}
 use Rattle.channel.specs.declared.Phase.{Phase}
-use Rattle.channel.specs.declared.Asked.{Asked}
-use Rattle.channel.specs.declared.Asked.TheVariants.{Never, At}
 use Rattle.channel.specs.declared.Channel.{Channel}
 use Rattle.channel.specs.declared.Request.{Request}
 use Rattle.channel.specs.Channel.{request_of, no_request, with_request, changed, fresh_channel, Shaped}
 use Rattle.channel.proofs.RequestLaws.{request_same, request_other, fresh_shaped, with_shaped, changed_shaped}
-use Rattle.image.specs.declared.AskedRead.{AskedRead}
 use Rattle.image.specs.declared.ChannelRead.{ChannelRead}
 use Rattle.image.specs.Layout.{flag_number, phase_number, asked_numbers, marks_number, request_numbers, requests_numbers, channel_numbers}
 use Rattle.image.specs.Read.{
@@ -37,11 +33,9 @@ use Rattle.image.specs.Read.{
   phase_of,
   marks_of,
   marks_most,
-  with_time,
   time_at,
   asked_at,
   with_state,
-  then_state,
   marks_at,
   owner_at,
   clock_at,
@@ -50,30 +44,19 @@ use Rattle.image.specs.Read.{
   requests_at,
   channel_part_at,
 }
+use Rattle.image.proofs.Told.{Told, at_told, then_told}
 use Rattle.image.proofs.MarkLaws.{marks_length, marks_number_back}
 use Rattle.image.proofs.RowLaws.{firsts_all}
 
--- what holds of an asked time, and of a channel, that was read and of its end, where its part is good
-abbrev Time : (Asked → ℕ → Type 0) → AskedRead → Type 0
-Time P r = (end : ℕ) → r.part ≡ Good end → P r.asked end
-
+-- what holds of a channel that was read, as far as that came, and of its end, where its part is good
 abbrev pub State : (Channel → ℕ → Type 0) → ChannelRead → Type 0
-State P r = (end : ℕ) → r.part ≡ Good end → P r.channel end
-
-time_with : (P : Asked → ℕ → Type 0) (got : NumberRead) (f : ℕ → ℕ → AskedRead) → ((v next : ℕ) → got ≡ Number v next → Time P (f v next))
-    → Time P (with_time got f)
-time_with P (Number v next) f h = h v next refl
-time_with P (Refused why p) f h = λ end e. no_good e
+State P r = (end : ℕ) → r.part ≡ Ok end → P r.channel end
 
 module _ (P : Channel → ℕ → Type 0) where
-  state_then : (j : Part) (ch : Channel) (f : ℕ → ChannelRead) → ((mid : ℕ) → j ≡ Good mid → State P (f mid)) → State P (then_state j ch f)
-  state_then (Good mid) ch f h = h mid refl
-  state_then (Fault why p) ch f h = λ end e. no_good e
-
-  state_with : (got : NumberRead) (ch : Channel) (f : ℕ → ℕ → ChannelRead) → ((v next : ℕ) → got ≡ Number v next → State P (f v next))
+  state_with : {A : Type 0} (got : Result A Fault) (ch : Channel) (f : A → ChannelRead) → ((x : A) → got ≡ Ok x → State P (f x))
       → State P (with_state got ch f)
-  state_with (Number v next) ch f h = h v next refl
-  state_with (Refused why p) ch f h = λ end e. no_good e
+  state_with (Ok x) ch f h = h x refl
+  state_with (Err x) ch f h = λ end e. no_good e
 
   state_cond : (b : Bool) (x y : ChannelRead) → (b ≡ true → State P x) → (b ≡ false → State P y) → State P (cond b x y)
   state_cond true x y p q = p refl
@@ -115,24 +98,24 @@ channel_parts ch =
     ap (λ (x : List ℕ). flag_number ch.ever ∷ ch.clock ∷ phase_number ch.phase ∷ x)
     (append_assoc (asked_numbers ch.asked) (marks_number ch.inactive ∷ []) (requests_numbers ch places 0))
 
-module _ (src : Source) where
+module _ (src : Reading) where
   -- the asked time
-  abbrev AskedTold : ℕ → Asked → ℕ → Type 0
+  abbrev AskedTold : ℕ → Option ℕ → ℕ → Type 0
   AskedTold at asked end = Spells src at (asked_numbers asked) end
 
-  asked_told : (at : ℕ) → Time (AskedTold at) (asked_at src at)
+  asked_told : (at : ℕ) → Told (AskedTold at) (asked_at src at)
   unfolding asked_at time_at
   asked_told at =
-      time_with (AskedTold at) (number_in src 0 1 at) _ (λ tag next e.
+      then_told (AskedTold at) (number_in src 0 1 at) _ (λ tag e.
       let r = in_range_lem src 0 1 (refusal_by 18) at e in
-      by_test (eqb tag 0)
-      (λ t. let none = eqb-true tag 0 t in rw t (at_good (AskedTold at Never) (spells_one (rw none at r.stands))))
+      by_test (eqb tag.0 0)
+      (λ t. let none = eqb-true tag.0 0 t in rw t (at_told (AskedTold at) (None, tag.1) (spells_one (rw none at r.stands))))
       (λ f.
-      let some = eqb-false tag 0 f in
-      let one : tag ≡ 1 = omega (arith, r.most) in
+      let some = eqb-false tag.0 0 f in
+      let one : tag.0 ≡ 1 = omega (arith, r.most) in
       rw f
-      (time_with (AskedTold at) (src next) _ (λ time end s.
-      at_good (AskedTold at (At time)) (then (rw one at r.stands) (spells_one s))))))
+      (then_told (AskedTold at) (src tag.1) _ (λ time s.
+      at_told (AskedTold at) (Some time.0, time.1) (then (rw one at r.stands) (spells_one s))))))
 
   -- A channel without requests, by the parts of its state that were read; those before them are `Known`.
   record StateTold (parts : Channel → List ℕ) (Known : Channel → Type 0) (at : ℕ) (ch : Channel) (end : ℕ) : Type 0 where
@@ -145,20 +128,19 @@ module _ (src : Source) where
   abbrev MarksTold : Bool → ℕ → Phase → ℕ → Channel → ℕ → Type 0
   MarksTold ever clock phase = StateTold marks_numbers (λ ch. (ch.phase ≡ phase) × (ch.clock ≡ clock) × (ch.ever ≡ ever))
 
-  marks_told : (ever : Bool) (clock : ℕ) (phase : Phase) (at : ℕ) → State (MarksTold ever clock phase at) (marks_at src ever clock phase at)
+  marks_told : (ever : Bool) (clock : ℕ) (phase : Phase) (at : ℕ) → Told (MarksTold ever clock phase at) (marks_at src ever clock phase at)
   unfolding marks_at
   marks_told ever clock phase at =
-      let when = asked_at src at in
-      state_then (MarksTold ever clock phase at) when.part fresh_channel _ (λ next e.
-      state_with (MarksTold ever clock phase at) (number_in src 0 marks_most next) fresh_channel _ (λ n end g.
-      let r = in_range_lem src 0 marks_most (refusal_by 18) next g in
-      let marks = marks_of places n in
-      let back : n ≡ marks_number marks = sym (marks_number_back n r.most) in
-      at_good (MarksTold ever clock phase at (changed fresh_channel phase when.asked ever clock marks))
+      then_told (MarksTold ever clock phase at) (asked_at src at) _ (λ asked e.
+      then_told (MarksTold ever clock phase at) (number_in src 0 marks_most asked.1) _ (λ n g.
+      let r = in_range_lem src 0 marks_most (refusal_by 18) asked.1 g in
+      let marks = marks_of places n.0 in
+      let back : n.0 ≡ marks_number marks = sym (marks_number_back n.0 r.most) in
+      at_told (MarksTold ever clock phase at) (changed fresh_channel phase asked.0 ever clock marks, n.1)
       (record {
-        spelt = spells_append (asked_told at next e) (spells_one (r.stands ∙ ap (λ (v : ℕ). Number v end) back));
+        spelt = spells_append (asked_told at asked e) (spells_one (r.stands ∙ ap (λ (v : ℕ). Number v n.1) back));
         known = (refl, refl, refl);
-        shaped = changed_shaped fresh_channel phase when.asked ever clock marks (marks_length places n) fresh_shaped;
+        shaped = changed_shaped fresh_channel phase asked.0 ever clock marks (marks_length places n.0) fresh_shaped;
         none = fresh_none;
       })))
 
@@ -166,15 +148,15 @@ module _ (src : Source) where
   abbrev OwnerTold : Bool → ℕ → ℕ → Channel → ℕ → Type 0
   OwnerTold ever clock = StateTold owner_numbers (λ ch. (phase_number ch.phase ≤ places) × (ch.clock ≡ clock) × (ch.ever ≡ ever))
 
-  owner_told : (ever : Bool) (clock at : ℕ) → State (OwnerTold ever clock at) (owner_at src ever clock at)
+  owner_told : (ever : Bool) (clock at : ℕ) → Told (OwnerTold ever clock at) (owner_at src ever clock at)
   unfolding owner_at
   owner_told ever clock at =
-      state_with (OwnerTold ever clock at) (number_in src 0 places at) fresh_channel _ (λ n next e end g.
+      then_told (OwnerTold ever clock at) (number_in src 0 places at) _ (λ n e x g.
       let r = in_range_lem src 0 places (refusal_by 18) at e in
-      let m = marks_told ever clock (phase_of n) next end g in
-      let number : phase_number (marks_at src ever clock (phase_of n) next).channel.phase ≡ n = ap phase_number m.known.0 ∙ phase_back n in
+      let m = marks_told ever clock (phase_of n.0) n.1 x g in
+      let number : phase_number x.0.phase ≡ n.0 = ap phase_number m.known.0 ∙ phase_back n.0 in
       record {
-        spelt = then (r.stands ∙ ap (λ (v : ℕ). Number v next) (sym number)) m.spelt;
+        spelt = then (r.stands ∙ ap (λ (v : ℕ). Number v n.1) (sym number)) m.spelt;
         known = (omega (arith, number, r.most), m.known.1, m.known.2);
         shaped = m.shaped;
         none = m.none;
@@ -184,13 +166,13 @@ module _ (src : Source) where
   abbrev ClockTold : Bool → ℕ → Channel → ℕ → Type 0
   ClockTold ever = StateTold clock_numbers (λ ch. (phase_number ch.phase ≤ places) × (ch.ever ≡ ever))
 
-  clock_told : (ever : Bool) (at : ℕ) → State (ClockTold ever at) (clock_at src ever at)
+  clock_told : (ever : Bool) (at : ℕ) → Told (ClockTold ever at) (clock_at src ever at)
   unfolding clock_at
   clock_told ever at =
-      state_with (ClockTold ever at) (src at) fresh_channel _ (λ clock next e end g.
-      let o = owner_told ever clock next end g in
+      then_told (ClockTold ever at) (src at) _ (λ clock e x g.
+      let o = owner_told ever clock.0 clock.1 x g in
       record {
-        spelt = then (e ∙ ap (λ (v : ℕ). Number v next) (sym o.known.1)) o.spelt;
+        spelt = then (e ∙ ap (λ (v : ℕ). Number v clock.1) (sym o.known.1)) o.spelt;
         known = (o.known.0, o.known.2);
         shaped = o.shaped;
         none = o.none;
@@ -200,15 +182,15 @@ module _ (src : Source) where
   abbrev WholeState : ℕ → Channel → ℕ → Type 0
   WholeState = StateTold state_numbers (λ ch. phase_number ch.phase ≤ places)
 
-  state_told : (at : ℕ) → State (WholeState at) (state_at src at)
+  state_told : (at : ℕ) → Told (WholeState at) (state_at src at)
   unfolding state_at
   state_told at =
-      state_with (WholeState at) (number_in src 0 1 at) fresh_channel _ (λ n next e end g.
+      then_told (WholeState at) (number_in src 0 1 at) _ (λ n e x g.
       let r = in_range_lem src 0 1 (refusal_by 18) at e in
-      let c = clock_told (eqb n 1) next end g in
-      let number : flag_number (clock_at src (eqb n 1) next).channel.ever ≡ n = ap flag_number c.known.1 ∙ flag_back n r.most in
+      let c = clock_told (eqb n.0 1) n.1 x g in
+      let number : flag_number x.0.ever ≡ n.0 = ap flag_number c.known.1 ∙ flag_back n.0 r.most in
       record {
-        spelt = then (r.stands ∙ ap (λ (v : ℕ). Number v next) (sym number)) c.spelt;
+        spelt = then (r.stands ∙ ap (λ (v : ℕ). Number v n.1) (sym number)) c.spelt;
         known = c.known.0;
         shaped = c.shaped;
         none = c.none;
@@ -269,7 +251,9 @@ module _ (src : Source) where
       at_good (RequestsTold zero l at first first)
       (record { spelt = done; before = λ j h. refl; state = refl; shaped = s.shaped; blank = s.blank })
   requests_told (suc more) l first at few s =
-      state_with (RequestsTold (suc more) l at first) (src at) first _ (λ left next r.
+      state_with (RequestsTold (suc more) l at first) (src at) first _ (λ read r.
+      let left = read.0 in
+      let next = read.1 in
       state_cond (RequestsTold (suc more) l at first) (eqb left 0) _ _
       (λ t end g.
       let rest = requests_told more (l + 1) first next (omega arith) (so_far_none l first s) end g in
@@ -277,7 +261,7 @@ module _ (src : Source) where
       let none = eqb-true left 0 t in
       place_told more l at next first first _ (0 ∷ []) (ap request_numbers here) (spells_one (rw none at r)) (λ j h. refl) refl rest)
       (λ f.
-      state_then (RequestsTold (suc more) l at first) (passed src 4 next) first _ (λ mid e end g.
+      state_with (RequestsTold (suc more) l at first) (passed src 4 next) first _ (λ mid e end g.
       let four = numbers src 4 next in
       let q = request_from left four in
       let some = eqb-false left 0 f in
@@ -310,13 +294,13 @@ module _ (src : Source) where
   pub channel_told : (len at : ℕ) → State (ChannelTold len at) (channel_part_at src len at)
   unfolding channel_part_at
   channel_told len at =
-      let state = state_at src at in
-      state_then (ChannelTold len at) state.part state.channel _ (λ next e.
-      let s = state_told at next e in
-      let none : SoFar 0 state.channel = record { shaped = s.shaped; blank = λ l z. s.none l; none = λ l h. s.none l } in
-      let all = requests_at src places 0 state.channel next in
-      state_then (ChannelTold len at) all.part all.channel _ (λ end g.
-      let q = requests_told places 0 state.channel next (omega arith) none end g in
+      state_with (ChannelTold len at) (state_at src at) fresh_channel _ (λ state e.
+      let next = state.1 in
+      let s = state_told at state e in
+      let none : SoFar 0 state.0 = record { shaped = s.shaped; blank = λ l z. s.none l; none = λ l h. s.none l } in
+      let all = requests_at src places 0 state.0 next in
+      state_with (ChannelTold len at) all.part all.channel _ (λ end g.
+      let q = requests_told places 0 state.0 next (omega arith) none end g in
       by_test (ltb end len)
       (λ t last h. no_good (rw t at h))
       (λ f. rw f (at_good (ChannelTold len at all.channel) (all_told len at next _ _ end s q (ltb-false end len f))))))

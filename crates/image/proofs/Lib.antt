@@ -5,6 +5,7 @@ pub mod WriteLaws
 pub mod ImageLaws
 pub mod PartLaws
 pub mod RowLaws
+pub mod Told
 pub mod Writable
 pub mod SetupSpelt
 pub mod ChannelSpelt

@@ -4,6 +4,7 @@ use mathlib.Core.Path.{◌≡◌, refl}
 use mathlib.Core.Bool.{true, false}
 use mathlib.Core.List.{List, [], ◌∷◌, ◌++◌}
 use lib.ListN.{length, replicate}
+use Rattle.std.specs.Prelude.{Some}
 use Rattle.basics.specs.Scan.{all_below, any_below, first_from}
 use Rattle.cycle.specs.Cycle.{is_length, is_width, is_port, transfer_time}
 use Rattle.number.specs.Number.{bytes_of}
@@ -33,7 +34,6 @@ use Rattle.frame.specs.Allowance.{allowance_of, is_within}
 use Rattle.frame.specs.Rows.{is_present, level_of}
 use Rattle.frame.specs.Find.{level_index, level_row, row_holds, slave_index, slave_row}
 use Rattle.channel.specs.declared.Phase.TheVariants.{Granted}
-use Rattle.channel.specs.declared.Asked.TheVariants.{At}
 use Rattle.channel.specs.declared.Channel.{Channel}
 use Rattle.channel.specs.Line.{drives, line_active}
 use Rattle.channel.specs.Slave.{slave_of, start_of}
@@ -79,7 +79,7 @@ abbrev channel : Channel
 channel =
     record {
       phase = Granted 0;
-      asked = At 4000000000;
+      asked = Some 4000000000;
       ever = true;
       clock = 4000000000;
       inactive = replicate 14 false ++ (true ∷ false ∷ []);

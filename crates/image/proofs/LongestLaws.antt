@@ -9,6 +9,7 @@ use native.Mathlib.Omega.{arith}
 use borrow.Author.Tests.{ltb-true, ltb-false}
 use lib.ListN.{length}
 use lib.Dec.{eqb, ltb}
+use Rattle.std.specs.Prelude.{None, Option, Some}
 use Rattle.basics.specs.Limits.{places, store_most}
 use Rattle.basics.proofs.Tests.{by_test}
 use Rattle.cycle.proofs.Widths.{width_some, port_some}
@@ -34,8 +35,6 @@ use Rattle.frame.proofs.RowLaws.{before_more}
 use Rattle.frame.proofs.SlaveLaws.{slave_count_lem, slave_row_facts, row_inside, store_most_lem}
 use Rattle.channel.specs.declared.Phase.{Phase}
 use Rattle.channel.specs.declared.Phase.TheVariants.{Arbitrating, Granted}
-use Rattle.channel.specs.declared.Asked.{Asked}
-use Rattle.channel.specs.declared.Asked.TheVariants.{Never, At}
 use Rattle.channel.specs.declared.Channel.{Channel}
 use Rattle.channel.specs.Channel.{request_of, Shaped}
 use Rattle.channel.specs.Slave.{slave_of}
@@ -173,16 +172,16 @@ module _ (setup : Setup) (ch : Channel) (framed : is_framed setup ≡ true) (sou
       small_less (omega arith) (small_append (request_small l (omega arith)) (requests_small left (l + 1) (omega arith)))
 
   -- an asked time is not after the clock
-  time_past : (phase : Phase) (t : ℕ) → ch.phase ≡ phase → ch.asked ≡ At t → t ≤ ch.clock
+  time_past : (phase : Phase) (t : ℕ) → ch.phase ≡ phase → ch.asked ≡ Some t → t ≤ ch.clock
   time_past Arbitrating t p e =
       let never = facts.settled.unasked p in
       let z : ◌≡◌ {A = ℕ} 0 1 = cc in
       absurd (omega arith)
   time_past (Granted owner) t p e = (facts.settled.asked owner t p e).past
 
-  asked_small : (asked : Asked) → ch.asked ≡ asked → Small (asked_numbers asked) 6
-  asked_small Never e = small_less (omega arith) (small_first 0 0 (omega arith) (omega arith) small_none)
-  asked_small (At t) e =
+  asked_small : (asked : Option ℕ) → ch.asked ≡ asked → Small (asked_numbers asked) 6
+  asked_small None e = small_less (omega arith) (small_first 0 0 (omega arith) (omega arith) small_none)
+  asked_small (Some t) e =
       small_first 0 1 (omega arith) (omega arith)
       (small_any t (omega (arith, time_past ch.phase t refl e, facts.settled.clock)) small_none)
 

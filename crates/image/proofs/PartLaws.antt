@@ -11,9 +11,8 @@ use lib.Seq.{sets, set_comm}
 use Rattle.basics.proofs.Tests.{by_test}
 use Rattle.refusal.specs.declared.Refusal.{Refusal}
 use Rattle.frame.specs.declared.Setup.{Setup}
-use Rattle.number.specs.Number.{whole_at, whole_after}
-use Rattle.number.specs.declared.NumberWritten.{NumberWritten}
-use Rattle.number.specs.declared.NumberWritten.TheVariants.{Past, Refused as NotWritten}
+use Rattle.std.specs.Prelude.{Ok, Err}
+use Rattle.number.specs.Number.{NumberWritten, whole_at, whole_after}
 use Rattle.number.proofs.Laws.{whole, not_whole}
 use Rattle.numbers.specs.Numbers.{all_bytes, write_numbers, write_numbers_after}
 use Rattle.numbers.proofs.Laws.{sets_append, sizes_most, no_room}
@@ -22,7 +21,7 @@ use Rattle.channel.specs.declared.Channel.{Channel}
 use Rattle.image.specs.Layout.{setup_numbers, channel_numbers, image_bytes}
 use Rattle.image.specs.Image.{write_channel, write_channel_after}
 use Rattle.image.proofs.LayLaws.{setup_most}
-use Rattle.image.proofs.ImageLaws.{laid_front, list_none, list_size, list_laid}
+use Rattle.image.proofs.ImageLaws.{laid_front, list_ok, list_size, list_laid}
 
 -- the set-up's part of an image: its numbers as a list, and their bytes at the start of a row
 pub setup_bytes : (setup : Setup) → length (all_bytes (setup_numbers setup)) ≤ 665
@@ -43,13 +42,13 @@ module _ (setup : Setup) {count : ℕ} {values row : List ℕ} {got : NumberWrit
   setup_written : (got ≡ write_numbers (setup_numbers setup) empty_row 0) × (row ≡ write_numbers_after (setup_numbers setup) empty_row 0)
   setup_written = rw setup_list at written
 
-  pub setup_none : {A : Type 0} {why : Refusal} → got ≡ NotWritten why → A
-  setup_none e = list_none (setup_numbers setup) empty_row 0 setup_room setup_written.0 e
+  pub setup_ok : got ≡ Ok (0 + length (all_bytes (setup_numbers setup)))
+  setup_ok = list_ok (setup_numbers setup) empty_row 0 setup_room setup_written.0
 
-  pub setup_ends : {n : ℕ} → got ≡ Past n → n ≡ length (all_bytes (setup_numbers setup))
+  pub setup_ends : {n : ℕ} → got ≡ Ok n → n ≡ length (all_bytes (setup_numbers setup))
   setup_ends e = list_size (setup_numbers setup) empty_row 0 setup_room setup_written.0 e ∙ zero-add (length (all_bytes (setup_numbers setup)))
 
-  pub setup_front : {n : ℕ} → got ≡ Past n → take n row ≡ all_bytes (setup_numbers setup)
+  pub setup_front : {n : ℕ} → got ≡ Ok n → take n row ≡ all_bytes (setup_numbers setup)
   setup_front {n} e =
       laid_front empty_row (all_bytes (setup_numbers setup)) n (omega (arith, setup_bytes setup)) (setup_ends e)
       (list_laid (setup_numbers setup) empty_row 0 setup_room setup_written.1)
@@ -84,21 +83,21 @@ module _ (setup : Setup) (ch : Channel) (out : List ℕ) {start : ℕ} (is : sta
   unfolding write_channel
   parts_at = rw parts_size
 
-  pub parts_room : {end : ℕ} → write_channel ch out start ≡ Past end → start + length lower ≤ length out
+  pub parts_room : {end : ℕ} → write_channel ch out start ≡ Ok end → start + length lower ≤ length out
   unfolding write_channel
   parts_room e =
       by_test (leb (start + length lower) (length out))
       (λ t. leb-true _ _ t)
       (λ f. no_room (sym (not_whole out start lower (leb-false _ _ f)).0 ∙ e))
 
-  pub parts_none : {why : Refusal} → write_channel ch out start ≡ NotWritten why → write_channel_after ch out start ≡ whole_after out 0 (image_bytes setup ch)
+  pub parts_none : {why : Refusal} → write_channel ch out start ≡ Err why → write_channel_after ch out start ≡ whole_after out 0 (image_bytes setup ch)
   unfolding write_channel write_channel_after
   parts_none e =
       by_test (leb (start + length lower) (length out))
       (λ t. no_room (sym e ∙ (whole out start lower (leb-true _ _ t)).0))
       (λ f. rw (parts_size, f))
 
-  pub parts_all : {end : ℕ} → write_channel ch out start ≡ Past end
+  pub parts_all : {end : ℕ} → write_channel ch out start ≡ Ok end
       → sets (write_channel_after ch out start) 0 upper ≡ whole_after out 0 (image_bytes setup ch)
   unfolding write_channel_after
   parts_all e =

@@ -8,12 +8,12 @@ use borrow.Author.Tests.{ltb-true, ltb-false}
 use lib.ListN.{length, get_or, take, replicate, length-append, length-replicate, get_or-append}
 use lib.Seq.{ext_get_or, length-take-le, get_or-take, get_or-append-add}
 use lib.Dec.{ltb}
+use Rattle.std.specs.Prelude.{Ok}
 use Rattle.basics.specs.Limits.{rows_most}
 use Rattle.basics.proofs.Arrays.{replicate_at}
 use Rattle.basics.proofs.Tests.{by_test}
 use Rattle.refusal.specs.Refusal.{refusal_by}
-use Rattle.numbers.specs.Numbers.{Source, passed, numbers}
-use Rattle.numbers.specs.declared.Part.TheVariants.{Good}
+use Rattle.numbers.specs.Numbers.{Reading, passed, numbers}
 use Rattle.numbers.proofs.Spelt.{Spells, spells_as, spells_first, spells_none, spells_split, spelt_passed, spelt_numbers, ranged_by}
 use Rattle.frame.specs.declared.LevelRows.{LevelRows}
 use Rattle.frame.specs.declared.SlaveRows.{SlaveRows}
@@ -35,9 +35,8 @@ use Rattle.frame.proofs.KindLaws.{
   put_apart,
   put_keeps,
 }
-use Rattle.sheet.specs.Sheet.{rows_read}
 use Rattle.image.specs.Layout.{layout_number, newest_edition, row_numbers, rows_numbers, counted_numbers, head_numbers, setup_numbers}
-use Rattle.image.specs.Read.{rows_at, counted_at, tables_at, head_at, setup_at}
+use Rattle.image.specs.Read.{Read, rows_at, counted_at, tables_at, head_at, setup_at}
 use Rattle.image.proofs.RowLaws.{row_many}
 
 -- a table's first rows, as many as its count, and nothing in the places behind them
@@ -85,6 +84,10 @@ module _ {A : Type 0} (none : A) (count : ℕ) (rows : List A) (few : count ≤ 
       by_test (ltb j count)
       (λ t. let l = ltb-true j count t in same j l ∙ sym (tidy_row j l))
       (λ f. let l = ltb-false j count f in rest j l ∙ sym (tidy_none j l)))
+
+-- a set-up that was read, up to its end
+abbrev up_to : Setup → ℕ → Read Setup
+up_to setup end = Ok (setup, end)
 
 -- a set-up with the tidy table of another, by the kind
 abbrev with_tidy : RowKind → Setup → Setup → Setup
@@ -138,28 +141,28 @@ module _ (setup : Setup) (wide : Wide setup) (few : (kind : RowKind) → row_cou
   count_tidy Levels own n = refl
   count_tidy Slaves own n = refl
 
-  module _ (src : Source) where
+  module _ (src : Reading) where
     -- `left` rows from row i on
     rows_read_lem : (kind : RowKind) (left i : ℕ) (own : Setup) (at : ℕ) {end : ℕ} → i + left ≡ row_count setup kind → Laid kind i own
         → Spells src at (rows_numbers setup kind left i) end
-        → rows_at kind src left i own at ≡ rows_read (with_tidy kind own setup) (Good end)
+        → rows_at kind src left i own at ≡ Ok (with_tidy kind own setup, end)
     rows_read_lem kind zero i own at all l s =
         let last : i ≡ row_count setup kind = omega arith in
-        ap₂ (λ (x : Setup) (e : ℕ). rows_read x (Good e)) (laid_all kind own (rw last at l)) (spells_none s)
+        ap₂ (λ (x : Setup) (e : ℕ). up_to x e) (laid_all kind own (rw last at l)) (spells_none s)
     rows_read_lem kind (suc left) i own at {end} all l s =
         let here = row_numbers setup kind i in
         let t = spells_split here s in
         let n = row_many setup kind i in
-        let good : passed src (row_size kind) at ≡ Good t.0 = rw n at (spelt_passed t.1) in
+        let good : passed src (row_size kind) at ≡ Ok t.0 = rw n at (spelt_passed t.1) in
         let row : numbers src (row_size kind) at ≡ here = rw n at (spelt_numbers t.1) in
         rw (good, row)
         (rows_read_lem kind left (i + 1) (put_row own kind i here) t.0 (omega arith) (laid_on kind i own (omega (arith, few kind)) l) t.2
-        ∙ ap (λ (x : Setup). rows_read x (Good end)) (put_tidy kind i own here))
+        ∙ ap (λ (x : Setup). up_to x end) (put_tidy kind i own here))
 
     -- a table, read into a set-up that has no rows of its kind
     counted_read : (kind : RowKind) (own : Setup) (at : ℕ) {end : ℕ} → Wide own → ((j : ℕ) → HasRow own kind j [])
         → Spells src at (counted_numbers setup kind) end
-        → counted_at kind src own at ≡ rows_read (with_tidy kind own setup) (Good end)
+        → counted_at kind src own at ≡ Ok (with_tidy kind own setup, end)
     unfolding counted_at
     counted_read kind own at {end} w empty s =
         let n = row_count setup kind in
@@ -173,11 +176,11 @@ module _ (setup : Setup) (wide : Wide setup) (few : (kind : RowKind) → row_cou
         } in
         rw (ranged_by src 0 rows_most (refusal_by 18) at f.1 (omega arith) (few kind))
         (rows_read_lem kind n 0 (with_count own kind n) f.0 (zero-add n) begun (spells_as (ap (λ (k : ℕ). rows_numbers setup kind k 0) present) f.2)
-        ∙ ap (λ (x : Setup). rows_read x (Good end)) (count_tidy kind own n))
+        ∙ ap (λ (x : Setup). up_to x end) (count_tidy kind own n))
 
     -- both tables and the length of the master store
     tables_read : (at : ℕ) {end : ℕ} → Spells src at ((counted_numbers setup Levels ++ counted_numbers setup Slaves) ++ (setup.master ∷ [])) end
-        → tables_at src at ≡ rows_read (tidied setup) (Good end)
+        → tables_at src at ≡ Ok (tidied setup, end)
     unfolding tables_at
     tables_read at s =
         let b = spells_split (counted_numbers setup Levels ++ counted_numbers setup Slaves) s in
@@ -193,14 +196,14 @@ module _ (setup : Setup) (wide : Wide setup) (few : (kind : RowKind) → row_cou
 
     -- a sheet's head, and the length of the master store
     head_read_lem : (at : ℕ) {end : ℕ} → Spells src at (head_numbers setup ++ (setup.master ∷ [])) end
-        → head_at src at ≡ rows_read (tidied setup) (Good end)
+        → head_at src at ≡ Ok (tidied setup, end)
     unfolding head_at head_numbers
     head_read_lem at s =
         let f = spells_first s in
         rw (ranged_by src newest_edition newest_edition (refusal_by 18) at f.1 (omega arith) (omega arith)) (tables_read f.0 f.2)
 
     -- A set-up.
-    pub setup_read : {end : ℕ} → Spells src 0 (setup_numbers setup) end → setup_at src ≡ rows_read (tidied setup) (Good end)
+    pub setup_read : {end : ℕ} → Spells src 0 (setup_numbers setup) end → setup_at src ≡ Ok (tidied setup, end)
     unfolding setup_at setup_numbers
     setup_read s =
         let f = spells_first s in

@@ -6,13 +6,9 @@ use mathlib.Core.List.{List, [], ◌∷◌, ◌++◌}
 use native.Mathlib.Omega.{arith}
 use Rattle.basics.specs.Limits.{rows_most}
 use Rattle.refusal.specs.Refusal.{refusal_by}
-use Rattle.number.specs.declared.NumberRead.{NumberRead}
-use Rattle.number.specs.declared.NumberRead.TheVariants.{Number, Refused}
-use Rattle.numbers.specs.Numbers.{Source, passed, numbers}
-use Rattle.numbers.specs.declared.Part.{Part}
-use Rattle.numbers.specs.declared.Part.TheVariants.{Good, Fault}
+use Rattle.number.specs.Number.{Number}
+use Rattle.numbers.specs.Numbers.{Reading, passed, numbers}
 use Rattle.numbers.proofs.Laws.{in_range_lem}
-use Rattle.numbers.proofs.Parts.{no_good, at_good}
 use Rattle.numbers.proofs.Spelt.{Spells, spells_one, spells_as, spells_append, passed_spells, passed_many}
 use Rattle.numbers.proofs.Spelt.Spells.{done, then}
 use Rattle.frame.specs.declared.Setup.{Setup}
@@ -35,25 +31,10 @@ use Rattle.frame.proofs.KindLaws.{
   put_others,
   count_others,
 }
-use Rattle.sheet.specs.declared.RowsRead.{RowsRead}
-use Rattle.sheet.specs.Sheet.{then_rows, with_rows}
 use Rattle.image.specs.Layout.{layout_number, newest_edition, row_numbers, rows_numbers, counted_numbers, head_numbers, setup_numbers}
 use Rattle.image.specs.Read.{number_in, rows_at, counted_at, tables_at, head_at, with_master, setup_at}
+use Rattle.image.proofs.Told.{Told, at_told, then_told}
 use Rattle.image.proofs.RowLaws.{put_numbers, put_before, count_same, counted_same}
-
--- what holds of rows that were read and of their end, where their part is good
-abbrev pub Rows : (Setup → ℕ → Type 0) → RowsRead → Type 0
-Rows P r = (end : ℕ) → r.part ≡ Good end → P r.setup end
-
-module _ (P : Setup → ℕ → Type 0) where
-  rows_then : (j : Part) (setup : Setup) (f : ℕ → RowsRead) → ((mid : ℕ) → j ≡ Good mid → Rows P (f mid)) → Rows P (then_rows j setup f)
-  rows_then (Good mid) setup f h = h mid refl
-  rows_then (Fault why p) setup f h = λ end e. no_good e
-
-  rows_with : (got : NumberRead) (setup : Setup) (f : ℕ → ℕ → RowsRead) → ((v next : ℕ) → got ≡ Number v next → Rows P (f v next))
-      → Rows P (with_rows got setup f)
-  rows_with (Number v next) setup f h = h v next refl
-  rows_with (Refused why p) setup f h = λ end e. no_good e
 
 -- another length of the master store leaves the rows
 module _ (setup : Setup) (length : ℕ) where
@@ -66,7 +47,7 @@ module _ (setup : Setup) (length : ℕ) where
   master_wide : Wide setup → Wide (with_master setup length)
   master_wide w = record { levels = w.levels; slaves = w.slaves }
 
-module _ (src : Source) where
+module _ (src : Reading) where
   -- `left` rows from row i on, read into the set-up `first`
   record RowsTold (kind : RowKind) (left i at : ℕ) (first setup : Setup) (end : ℕ) : Type 0 where
     spelt : Spells src at (rows_numbers setup kind left i) end
@@ -76,22 +57,22 @@ module _ (src : Source) where
     others : (other : RowKind) → (kind ≡ other → ⊥) → SameRows setup first other
 
   rows_told : (kind : RowKind) (left i : ℕ) (first : Setup) (at : ℕ) → Wide first → i + left ≤ rows_most
-      → Rows (RowsTold kind left i at first) (rows_at kind src left i first at)
+      → Told (RowsTold kind left i at first) (rows_at kind src left i first at)
   rows_told kind zero i first at w few =
-      at_good (RowsTold kind zero i at first first)
+      at_told (RowsTold kind zero i at first) (first, at)
       (record { spelt = done; before = λ j h. refl; wide = w; count = refl; others = λ other n. same_refl first other })
   rows_told kind (suc left) i first at w few =
       let row = numbers src (row_size kind) at in
       let more = put_row first kind i row in
-      rows_then (RowsTold kind (suc left) i at first) (passed src (row_size kind) at) first _ (λ next e end g.
-      let rest = rows_told kind left (i + 1) more next (put_wide first kind i row w) (omega arith) end g in
+      then_told (RowsTold kind (suc left) i at first) (passed src (row_size kind) at) _ (λ next e x g.
+      let rest = rows_told kind left (i + 1) more next (put_wide first kind i row w) (omega arith) x g in
       let here = rest.before i (omega arith) ∙ put_numbers first kind i row w (omega arith) (passed_many src (row_size kind) at e) in
       record {
         spelt = rw here (spells_append (passed_spells src (row_size kind) at e) rest.spelt);
         before = λ j h. rest.before j (omega arith) ∙ put_before first kind i j row h;
         wide = rest.wide;
         count = rest.count ∙ put_count first kind i row;
-        others = λ other n. same_then (rows_at kind src left (i + 1) more next).setup more first other (rest.others other n) (put_others first kind other i row n);
+        others = λ other n. same_then x.0 more first other (rest.others other n) (put_others first kind other i row n);
       })
 
   -- the count and the rows
@@ -101,19 +82,20 @@ module _ (src : Source) where
     wide : Wide setup
     others : (other : RowKind) → (kind ≡ other → ⊥) → SameRows setup first other
 
-  counted_told : (kind : RowKind) (first : Setup) (at : ℕ) → Wide first → Rows (CountedTold kind at first) (counted_at kind src first at)
+  counted_told : (kind : RowKind) (first : Setup) (at : ℕ) → Wide first → Told (CountedTold kind at first) (counted_at kind src first at)
   unfolding counted_at
   counted_told kind first at w =
-      rows_with (CountedTold kind at first) (number_in src 0 rows_most at) first _ (λ n next e end g.
+      then_told (CountedTold kind at first) (number_in src 0 rows_most at) _ (λ count e x g.
+      let n = count.0 in
       let r = in_range_lem src 0 rows_most (refusal_by 18) at e in
       let begun = with_count first kind n in
-      let rest = rows_told kind n 0 begun next (count_wide first kind n w) (omega (arith, r.most)) end g in
-      let setup = (rows_at kind src n 0 begun next).setup in
-      let count : row_count setup kind ≡ n = rest.count ∙ counted first kind n in
-      let present : rows_present (row_count setup kind) ≡ n = omega (arith, r.most, count) in
+      let rest = rows_told kind n 0 begun count.1 (count_wide first kind n w) (omega (arith, r.most)) x g in
+      let setup = x.0 in
+      let own : row_count setup kind ≡ n = rest.count ∙ counted first kind n in
+      let present : rows_present (row_count setup kind) ≡ n = omega (arith, r.most, own) in
       record {
-        spelt = rw (present, count) (then r.stands rest.spelt);
-        few = omega (arith, r.most, count);
+        spelt = rw (present, own) (then r.stands rest.spelt);
+        few = omega (arith, r.most, own);
         wide = rest.wide;
         others = λ other d. same_then setup begun first other (rest.others other d) (count_others first kind other n d);
       })
@@ -128,27 +110,25 @@ module _ (src : Source) where
   abbrev table_numbers : Setup → List ℕ
   table_numbers setup = (counted_numbers setup Levels ++ counted_numbers setup Slaves) ++ (setup.master ∷ [])
 
-  tables_told : (at : ℕ) → Rows (SetupTold table_numbers at) (tables_at src at)
+  tables_told : (at : ℕ) → Told (SetupTold table_numbers at) (tables_at src at)
   unfolding tables_at
   tables_told at =
-      let levels = counted_at Levels src no_rows at in
-      rows_then (SetupTold table_numbers at) levels.part no_rows _ (λ second e.
-      let both = counted_at Slaves src levels.setup second in
-      rows_then (SetupTold table_numbers at) both.part no_rows _ (λ third f.
-      rows_with (SetupTold table_numbers at) (src third) no_rows _ (λ length end r.
-      let l = counted_told Levels no_rows at no_rows_wide second e in
-      let s = counted_told Slaves levels.setup second l.wide third f in
-      let same : both.setup.levels ≡ levels.setup.levels = s.others Levels other_kind in
-      let upper = spells_as (sym (counted_same both.setup levels.setup Levels same)) l.spelt in
-      let few = by_kind (λ kind. row_count both.setup kind ≤ rows_most)
-      (omega (arith, l.few, count_same both.setup levels.setup Levels same)) s.few in
-      at_good (SetupTold table_numbers at (with_master both.setup length))
+      then_told (SetupTold table_numbers at) (counted_at Levels src no_rows at) _ (λ levels e.
+      then_told (SetupTold table_numbers at) (counted_at Slaves src levels.0 levels.1) _ (λ both f.
+      then_told (SetupTold table_numbers at) (src both.1) _ (λ length r.
+      let l = counted_told Levels no_rows at no_rows_wide levels e in
+      let s = counted_told Slaves levels.0 levels.1 l.wide both f in
+      let same : both.0.levels ≡ levels.0.levels = s.others Levels other_kind in
+      let upper = spells_as (sym (counted_same both.0 levels.0 Levels same)) l.spelt in
+      let few = by_kind (λ kind. row_count both.0 kind ≤ rows_most)
+      (omega (arith, l.few, count_same both.0 levels.0 Levels same)) s.few in
+      at_told (SetupTold table_numbers at) (with_master both.0 length.0, length.1)
       (record {
         spelt = spells_append
-            (spells_append (spells_as (master_counted both.setup length Levels) upper) (spells_as (master_counted both.setup length Slaves) s.spelt))
+            (spells_append (spells_as (master_counted both.0 length.0 Levels) upper) (spells_as (master_counted both.0 length.0 Slaves) s.spelt))
             (spells_one r);
-        few = master_few both.setup length few;
-        wide = master_wide both.setup length s.wide;
+        few = master_few both.0 length.0 few;
+        wide = master_wide both.0 length.0 s.wide;
       }))))
 
   -- a number for which there is room for one value only
@@ -162,17 +142,17 @@ module _ (src : Source) where
   abbrev head_and_master : Setup → List ℕ
   head_and_master setup = head_numbers setup ++ (setup.master ∷ [])
 
-  head_told : (at : ℕ) → Rows (SetupTold head_and_master at) (head_at src at)
+  head_told : (at : ℕ) → Told (SetupTold head_and_master at) (head_at src at)
   unfolding head_at head_numbers
   head_told at =
-      rows_with (SetupTold head_and_master at) (number_in src newest_edition newest_edition at) no_rows _ (λ edition first e end g.
-      let t = tables_told first end g in
+      then_told (SetupTold head_and_master at) (number_in src newest_edition newest_edition at) _ (λ edition e x g.
+      let t = tables_told edition.1 x g in
       record { spelt = then (only newest_edition at e) t.spelt; few = t.few; wide = t.wide })
 
   -- A set-up, and what was read of it.
-  pub setup_told : Rows (SetupTold setup_numbers 0) (setup_at src)
+  pub setup_told : Told (SetupTold setup_numbers 0) (setup_at src)
   unfolding setup_at setup_numbers
   setup_told =
-      rows_with (SetupTold setup_numbers 0) (number_in src layout_number layout_number 0) no_rows _ (λ layout first e end g.
-      let t = head_told first end g in
+      then_told (SetupTold setup_numbers 0) (number_in src layout_number layout_number 0) _ (λ layout e x g.
+      let t = head_told layout.1 x g in
       record { spelt = then (only layout_number 0 e) t.spelt; few = t.few; wide = t.wide })

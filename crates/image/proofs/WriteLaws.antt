@@ -9,6 +9,7 @@ use borrow.Author.Tests.{eq-eqb, ne_eqb}
 use lib.Dec.{eqb}
 use lib.ListN.{length, get_or, drop, set, length-append}
 use lib.Seq.{sets, drop-cons}
+use Rattle.std.specs.Prelude.{None, Option, Some}
 use Rattle.basics.specs.Limits.{places}
 use Rattle.basics.proofs.Tests.{by_test}
 use Rattle.number.specs.Number.{bytes_of}
@@ -16,8 +17,6 @@ use Rattle.number.proofs.Laws.{bytes_most}
 use Rattle.numbers.specs.Numbers.{all_bytes}
 use Rattle.numbers.proofs.Laws.{sets_append, sizes_most}
 use Rattle.numbers.proofs.RoundTrip.{all_append}
-use Rattle.channel.specs.declared.Asked.{Asked}
-use Rattle.channel.specs.declared.Asked.TheVariants.{Never, At}
 use Rattle.channel.specs.declared.Channel.{Channel}
 use Rattle.channel.specs.declared.Request.{Request}
 use Rattle.channel.specs.Channel.{request_of}
@@ -102,11 +101,11 @@ requests_most ch (suc left) l =
     omega (arith, both, request_most_lem (request_of ch l), requests_most ch left (l + 1))
 
 -- the asked time
-asked_most : (asked : Asked) → length (asked_numbers asked) ≤ 2
-asked_most Never = omega arith
-asked_most (At time) = omega arith
+asked_most : (asked : Option ℕ) → length (asked_numbers asked) ≤ 2
+asked_most None = omega arith
+asked_most (Some time) = omega arith
 
-pub asked_size : (asked : Asked) → length (all_bytes (asked_numbers asked)) ≤ 10
+pub asked_size : (asked : Option ℕ) → length (all_bytes (asked_numbers asked)) ≤ 10
 asked_size asked = omega (arith, sizes_most (asked_numbers asked), asked_most asked)
 
 -- the whole channel: whether it was ever granted, clock, owner, asked time, marks and requests, each after the other

@@ -1,6 +1,6 @@
 -- Document 02, CR 1: "a set-up and channel as a byte image in our seven-bit numbers": the numbers of an image, in their order. What does not change comes
 -- first: the layout number, a sheet's head, the length of the master store; then the channel.
-use Rattle.std.specs.Prelude.{ℕ, zero, suc, ◌+◌, ◌*◌, Bool, cond, List, [], ◌∷◌, ◌++◌, eqb}
+use Rattle.std.specs.Prelude.{ℕ, zero, suc, ◌+◌, ◌*◌, Bool, cond, List, [], ◌∷◌, ◌++◌, eqb, None, Option, Some}
 use Rattle.basics.specs.Limits.{places}
 use Rattle.numbers.specs.Numbers.{all_bytes}
 use Rattle.frame.specs.declared.LevelRow.{LevelRow}
@@ -12,8 +12,6 @@ use Rattle.frame.specs.Frame.{level_at, slave_at, rows_present}
 use Rattle.frame.specs.Kind.{row_count}
 use Rattle.channel.specs.declared.Phase.{Phase}
 use Rattle.channel.specs.declared.Phase.TheVariants.{Arbitrating, Granted}
-use Rattle.channel.specs.declared.Asked.{Asked}
-use Rattle.channel.specs.declared.Asked.TheVariants.{Never, At}
 use Rattle.channel.specs.declared.Channel.{Channel}
 use Rattle.channel.specs.declared.Request.{Request}
 use Rattle.channel.specs.Channel.{request_of}
@@ -62,9 +60,9 @@ phase_number Arbitrating = 0
 phase_number (Granted owner) = owner + 1
 
 -- "while granted, perhaps an asked time": 0, or 1 and the time, which may be 0
-abbrev pub asked_numbers : Asked → List ℕ
-asked_numbers Never = 0 ∷ []
-asked_numbers (At time) = 1 ∷ time ∷ []
+abbrev pub asked_numbers : Option ℕ → List ℕ
+asked_numbers None = 0 ∷ []
+asked_numbers (Some time) = 1 ∷ time ∷ []
 
 -- "an inactive mark per level": the sum of 2 to the power of each marked place
 abbrev pub marks_number : List Bool → ℕ

@@ -2,131 +2,50 @@
 // read in every call, and so each number goes from its bytes straight to its field.
 ghost use Rattle.std.specs.Prelude.{◌≡◌};
 ghost use Rattle.number.specs.Number.{read_number};
-ghost use Rattle.frame.specs.Frame.{no_level, no_slave};
 ghost use Rattle.image.specs.Read.{number_in};
-ghost use Rattle.image.specs.inner.Rows.{part_of, level_read, read_level, slave_read, read_slave};
+ghost use Rattle.image.specs.inner.Rows.{read_level, read_slave};
 
 use frame::{LevelRow, SlaveRow};
-use number::NumberRead;
-use numbers::Part;
+use number::Fault;
 use refusal::Refusal;
 
-// A row that was read, or none, and the part of the image that it is.
-#[derive(Clone, Copy)]
-pub(crate) struct LevelRead {
-    pub row: LevelRow,
-    pub part: Part,
-}
-
-#[derive(Clone, Copy)]
-pub(crate) struct SlaveRead {
-    pub row: SlaveRow,
-    pub part: Part,
-}
-
-// A number of which the shape has room for low to high only.
-pub(crate) fn number_in(bytes: &[u8], low: u32, high: u32, at: usize) -> NumberRead
+// A number of which the shape has room for low to high only. (`numbers::Source` would ask at each number what it is read from.)
+#[tactic(auto, unfolding(numbers::specs::Numbers::number_between))]
+pub(crate) fn number_in(bytes: &[u8], low: u32, high: u32, at: usize) -> Result<(u32, usize), Fault>
     ensures { result ≡ number_in (read_number bytes.now) low high at }
 {
-    let got = number::read_number(bytes, at);
-    match got {
-        NumberRead::Refused(why, place) => NumberRead::Refused(why, place),
-        NumberRead::Number(v, next) => {
-            if (low <= v) & (v <= high) {
-                return NumberRead::Number(v, next);
-            }
-            NumberRead::Refused(Refusal::Malformed, at)
-        }
+    let (v, next) = number::read_number(bytes, at)?;
+    if (low <= v) & (v <= high) {
+        return Ok((v, next));
     }
-}
-
-// The part that one number is.
-pub(crate) fn part_of(got: NumberRead) -> Part
-    ensures { result ≡ part_of got }
-{
-    match got {
-        NumberRead::Number(_, next) => Part::Good(next),
-        NumberRead::Refused(why, place) => Part::Fault(why, place),
-    }
-}
-
-// No level row, as one of its numbers isn't there.
-fn no_level(got: NumberRead) -> LevelRead
-    ensures { result ≡ level_read no_level (part_of got) }
-{
-    let row = LevelRow {
-        level: 0,
-        width: 0,
-        options: 0,
-    };
-    let part = part_of(got);
-    LevelRead { row, part }
+    let why = Refusal::Malformed;
+    Err(Fault { why, place: at })
 }
 
 // The level row at a place.
-pub(crate) fn read_level(bytes: &[u8], at: usize) -> LevelRead
+pub(crate) fn read_level(bytes: &[u8], at: usize) -> Result<(LevelRow, usize), Fault>
     ensures { result ≡ read_level (read_number bytes.now) at }
 {
-    let first = number::read_number(bytes, at);
-    let NumberRead::Number(level, second) = first else {
-        return no_level(first);
-    };
-    let next = number::read_number(bytes, second);
-    let NumberRead::Number(width, third) = next else {
-        return no_level(next);
-    };
-    let last = number::read_number(bytes, third);
-    let NumberRead::Number(options, end) = last else {
-        return no_level(last);
-    };
+    let (level, second) = number::read_number(bytes, at)?;
+    let (width, third) = number::read_number(bytes, second)?;
+    let (options, end) = number::read_number(bytes, third)?;
     let row = LevelRow {
         level,
         width,
         options,
     };
-    let part = Part::Good(end);
-    LevelRead { row, part }
-}
-
-// No slave row.
-fn no_slave(got: NumberRead) -> SlaveRead
-    ensures { result ≡ slave_read no_slave (part_of got) }
-{
-    let row = SlaveRow {
-        space: 0,
-        base: 0,
-        length: 0,
-        port: 0,
-        time: 0,
-    };
-    let part = part_of(got);
-    SlaveRead { row, part }
+    Ok((row, end))
 }
 
 // The slave row at a place.
-pub(crate) fn read_slave(bytes: &[u8], at: usize) -> SlaveRead
+pub(crate) fn read_slave(bytes: &[u8], at: usize) -> Result<(SlaveRow, usize), Fault>
     ensures { result ≡ read_slave (read_number bytes.now) at }
 {
-    let first = number::read_number(bytes, at);
-    let NumberRead::Number(space, second) = first else {
-        return no_slave(first);
-    };
-    let next = number::read_number(bytes, second);
-    let NumberRead::Number(base, third) = next else {
-        return no_slave(next);
-    };
-    let middle = number::read_number(bytes, third);
-    let NumberRead::Number(length, fourth) = middle else {
-        return no_slave(middle);
-    };
-    let more = number::read_number(bytes, fourth);
-    let NumberRead::Number(port, fifth) = more else {
-        return no_slave(more);
-    };
-    let last = number::read_number(bytes, fifth);
-    let NumberRead::Number(time, end) = last else {
-        return no_slave(last);
-    };
+    let (space, second) = number::read_number(bytes, at)?;
+    let (base, third) = number::read_number(bytes, second)?;
+    let (length, fourth) = number::read_number(bytes, third)?;
+    let (port, fifth) = number::read_number(bytes, fourth)?;
+    let (time, end) = number::read_number(bytes, fifth)?;
     let row = SlaveRow {
         space,
         base,
@@ -134,6 +53,5 @@ pub(crate) fn read_slave(bytes: &[u8], at: usize) -> SlaveRead
         port,
         time,
     };
-    let part = Part::Good(end);
-    SlaveRead { row, part }
+    Ok((row, end))
 }

@@ -6,180 +6,94 @@ ghost use Rattle.number.specs.Number.{read_number};
 ghost use Rattle.frame.specs.declared.LevelRows.{LevelRows};
 ghost use Rattle.frame.specs.Kind.{no_rows, with_levels, with_slaves, with_count};
 ghost use Rattle.frame.specs.declared.RowKind.TheVariants.{Levels, Slaves};
-ghost use Rattle.sheet.specs.Sheet.{rows_read};
-ghost use Rattle.image.specs.Read.{rows_at, counted_at, tables_at, head_at, setup_at};
+ghost use Rattle.image.specs.Read.{rows_at, counted_at, tables_at, setup_at};
+ghost use Rattle.image.specs.inner.Rows.{made};
 
-use crate::rows::{number_in, part_of, read_level, read_slave};
+use crate::rows::{number_in, read_level, read_slave};
 use crate::{EDITION, LAYOUT};
 use basics::{ROWS_MOST, ROWS_MOST_U32};
-use frame::{LevelRow, LevelRows, Setup, SlaveRow, SlaveRows};
-use number::NumberRead;
-use numbers::Part;
-use sheet::RowsRead;
-
-// Level rows that were read, as far as that came, and the part of the image that they are; and slave rows.
-#[derive(Clone, Copy)]
-pub(crate) struct LevelsRead {
-    pub levels: LevelRows,
-    pub part: Part,
-}
-
-#[derive(Clone, Copy)]
-pub(crate) struct SlavesRead {
-    pub slaves: SlaveRows,
-    pub part: Part,
-}
+use frame::{LevelRows, NO_LEVEL, NO_SLAVE, Setup, SlaveRows};
+use number::Fault;
 
 // The level rows from a place on.
-fn read_levels(bytes: &[u8], count: usize, at: usize) -> LevelsRead
+fn read_levels(bytes: &[u8], count: usize, at: usize) -> Result<(LevelRows, usize), Fault>
     requires { count ≤ rows_most }
-    ensures { rows_read (with_levels no_rows result.levels) result.part
+    ensures { made (with_levels no_rows) result
         ≡ rows_at Levels (read_number bytes.now) count 0 (with_count no_rows Levels count) at }
 {
-    let none = LevelRow {
-        level: 0,
-        width: 0,
-        options: 0,
-    };
     let mut levels = LevelRows {
-        rows: [none; ROWS_MOST],
+        rows: [NO_LEVEL; ROWS_MOST],
         count,
     };
-    let mut i: usize = 0;
     let mut place = at;
-    while i < count {
-        let got = read_level(bytes, place);
-        let part = got.part;
-        let Part::Good(next) = part else {
-            return LevelsRead { levels, part };
-        };
-        let row = got.row;
+    for i in 0..count {
+        let (row, next) = read_level(bytes, place)?;
         levels.rows[i] = row;
         place = next;
-        i += 1;
     }
-    let part = Part::Good(place);
-    LevelsRead { levels, part }
+    Ok((levels, place))
 }
 
 // The slave rows from a place on.
-fn read_slaves(bytes: &[u8], count: usize, at: usize) -> SlavesRead
+fn read_slaves(bytes: &[u8], count: usize, at: usize) -> Result<(SlaveRows, usize), Fault>
     requires { count ≤ rows_most }
-    ensures { (levels : LevelRows) → rows_read (with_slaves (with_levels no_rows levels) result.slaves) result.part
+    ensures { (levels : LevelRows) → made (with_slaves (with_levels no_rows levels)) result
         ≡ rows_at Slaves (read_number bytes.now) count 0 (with_count (with_levels no_rows levels) Slaves count) at }
 {
-    let none = SlaveRow {
-        space: 0,
-        base: 0,
-        length: 0,
-        port: 0,
-        time: 0,
-    };
     let mut slaves = SlaveRows {
-        rows: [none; ROWS_MOST],
+        rows: [NO_SLAVE; ROWS_MOST],
         count,
     };
-    let mut i: usize = 0;
     let mut place = at;
-    while i < count {
-        let got = read_slave(bytes, place);
-        let part = got.part;
-        let Part::Good(next) = part else {
-            return SlavesRead { slaves, part };
-        };
-        let row = got.row;
+    for i in 0..count {
+        let (row, next) = read_slave(bytes, place)?;
         slaves.rows[i] = row;
         place = next;
-        i += 1;
     }
-    let part = Part::Good(place);
-    SlavesRead { slaves, part }
+    Ok((slaves, place))
 }
 
 // The count of the level rows, and these rows.
-fn counted_levels(bytes: &[u8], at: usize) -> LevelsRead
-    ensures { rows_read (with_levels no_rows result.levels) result.part ≡ counted_at Levels (read_number bytes.now) no_rows at }
+#[tactic(auto, unfolding(crate::specs::Read::counted_at))]
+fn counted_levels(bytes: &[u8], at: usize) -> Result<(LevelRows, usize), Fault>
+    ensures { made (with_levels no_rows) result ≡ counted_at Levels (read_number bytes.now) no_rows at }
 {
-    let got = number_in(bytes, 0, ROWS_MOST_U32, at);
-    let NumberRead::Number(n, next) = got else {
-        let none = frame::no_rows();
-        let levels = none.levels;
-        let part = part_of(got);
-        return LevelsRead { levels, part };
-    };
+    let (n, next) = number_in(bytes, 0, ROWS_MOST_U32, at)?;
     read_levels(bytes, n as usize, next)
 }
 
 // The count of the slave rows, and these rows.
-fn counted_slaves(bytes: &[u8], at: usize) -> SlavesRead
-    ensures { (levels : LevelRows) → rows_read (with_slaves (with_levels no_rows levels) result.slaves) result.part
+#[tactic(auto, unfolding(crate::specs::Read::counted_at))]
+fn counted_slaves(bytes: &[u8], at: usize) -> Result<(SlaveRows, usize), Fault>
+    ensures { (levels : LevelRows) → made (with_slaves (with_levels no_rows levels)) result
         ≡ counted_at Slaves (read_number bytes.now) (with_levels no_rows levels) at }
 {
-    let got = number_in(bytes, 0, ROWS_MOST_U32, at);
-    let NumberRead::Number(n, next) = got else {
-        let none = frame::no_rows();
-        let slaves = none.slaves;
-        let part = part_of(got);
-        return SlavesRead { slaves, part };
-    };
+    let (n, next) = number_in(bytes, 0, ROWS_MOST_U32, at)?;
     read_slaves(bytes, n as usize, next)
 }
 
-// Nothing was read.
-pub(crate) fn no_setup(part: Part) -> RowsRead
-    ensures { result ≡ rows_read no_rows part }
-{
-    let setup = frame::no_rows();
-    RowsRead { setup, part }
-}
-
 // The rows of both kinds, and the length of the master store.
-fn read_tables(bytes: &[u8], at: usize) -> RowsRead
+#[tactic(auto, unfolding(crate::specs::Read::tables_at))]
+fn read_tables(bytes: &[u8], at: usize) -> Result<(Setup, usize), Fault>
     ensures { result ≡ tables_at (read_number bytes.now) at }
 {
-    let upper = counted_levels(bytes, at);
-    let first = upper.part;
-    let Part::Good(second) = first else {
-        return no_setup(first);
-    };
-    let lower = counted_slaves(bytes, second);
-    let next = lower.part;
-    let Part::Good(third) = next else {
-        return no_setup(next);
-    };
-    let got = number::read_number(bytes, third);
-    let NumberRead::Number(master, end) = got else {
-        return no_setup(part_of(got));
-    };
-    let levels = upper.levels;
-    let slaves = lower.slaves;
+    let (levels, second) = counted_levels(bytes, at)?;
+    let (slaves, third) = counted_slaves(bytes, second)?;
+    let (master, end) = number::read_number(bytes, third)?;
     let setup = Setup {
         levels,
         slaves,
         master,
     };
-    let part = Part::Good(end);
-    RowsRead { setup, part }
+    Ok((setup, end))
 }
 
-// A sheet's head from a place on, and the length of the master store.
-fn read_head_at(bytes: &[u8], at: usize) -> RowsRead
-    ensures { result ≡ head_at (read_number bytes.now) at }
-{
-    let edition = number_in(bytes, EDITION, EDITION, at);
-    let NumberRead::Number(_, first) = edition else {
-        return no_setup(part_of(edition));
-    };
-    read_tables(bytes, first)
-}
-
-// The set-up's part of an image.
-pub(crate) fn read_setup_at(bytes: &[u8]) -> RowsRead
+// The set-up's part of an image: the layout number, a sheet's head from its edition on, and the length of the master store.
+#[tactic(auto, unfolding(crate::specs::Read::setup_at, crate::specs::Read::head_at))]
+pub(crate) fn read_setup_at(bytes: &[u8]) -> Result<(Setup, usize), Fault>
     ensures { result ≡ setup_at (read_number bytes.now) }
 {
-    let layout = number_in(bytes, LAYOUT, LAYOUT, 0);
-    let NumberRead::Number(_, first) = layout else {
-        return no_setup(part_of(layout));
-    };
-    read_head_at(bytes, first)
+    let (_, first) = number_in(bytes, LAYOUT, LAYOUT, 0)?;
+    let (_, second) = number_in(bytes, EDITION, EDITION, first)?;
+    read_tables(bytes, second)
 }

@@ -10,15 +10,14 @@ ghost use Rattle.image.specs.Layout.{requests_numbers, channel_numbers};
 
 use crate::LAYOUT;
 use basics::PLACES;
-use channel::{Asked, Channel, Phase, Request};
-use number::NumberWritten;
+use channel::{Channel, Phase, Request};
 use refusal::Refusal;
 
 // 1 for what is so.
 fn flag_number(so: bool) -> u32
     ensures { result ≡ flag_number so }
 {
-    if so { 1 } else { 0 }
+    u32::from(so)
 }
 
 // The owner's number.
@@ -27,7 +26,7 @@ fn phase_number(phase: Phase) -> u32
 {
     match phase {
         Phase::Arbitrating => 0,
-        Phase::Granted(owner) => owner as u32 + 1,
+        Phase::Granted(owner) => u32::from(owner) + 1,
     }
 }
 
@@ -36,9 +35,7 @@ fn marks_number(marks: [bool; PLACES]) -> u32
     ensures { result ≡ marks_number marks }
 {
     let mut sum: u32 = 0;
-    let mut level: usize = PLACES;
-    while 0 < level {
-        level -= 1;
+    for level in (0..PLACES).rev() {
         sum = flag_number(marks[level]) + 2 * sum;
     }
     sum
@@ -50,22 +47,18 @@ fn put_one(row: &mut [u8], at: usize, v: u32) -> usize
     ensures value { result ≡ at + length (bytes_of v) }
     ensures row_after { row.new ≡ sets row.old at (bytes_of v) }
 {
-    let written = number::write_number(row, at, v);
-    match written {
-        NumberWritten::Past(next) => next,
-        NumberWritten::Refused(_) => at,
-    }
+    number::write_number(row, at, v).unwrap()
 }
 
 // The same of the asked time, two numbers at most.
-fn put_asked(row: &mut [u8], at: usize, asked: Asked) -> usize
+fn put_asked(row: &mut [u8], at: usize, asked: Option<u32>) -> usize
     requires { at + 10 ≤ length row.old }
     ensures value { result ≡ at + length (all_bytes (asked_numbers asked)) }
     ensures row_after { row.new ≡ sets row.old at (all_bytes (asked_numbers asked)) }
 {
     match asked {
-        Asked::Never => put_one(row, at, 0),
-        Asked::At(time) => {
+        None => put_one(row, at, 0),
+        Some(time) => {
             let next = put_one(row, at, 1);
             put_one(row, next, time)
         }
@@ -92,24 +85,21 @@ fn put_requests(row: &mut [u8], at: usize, channel: Channel) -> usize
     ensures row_after { row.new ≡ sets row.old at (all_bytes (requests_numbers channel places 0)) }
 {
     let mut place = at;
-    let mut level: usize = 0;
-    while level < PLACES {
+    for level in 0..PLACES {
         let left = channel.left[level];
         if left == 0 {
             row[place] = 0;
             place += 1;
-            level += 1;
-        } else {
-            let request = Request {
-                direction: channel.direction[level],
-                space: channel.space[level],
-                address: channel.address[level],
-                left,
-                offset: channel.offset[level],
-            };
-            place = put_request(row, place, request);
-            level += 1;
+            continue;
         }
+        let request = Request {
+            direction: channel.direction[level],
+            space: channel.space[level],
+            address: channel.address[level],
+            left,
+            offset: channel.offset[level],
+        };
+        place = put_request(row, place, request);
     }
     place
 }
@@ -120,14 +110,11 @@ pub(crate) fn put_channel(row: &mut [u8], at: usize, channel: Channel) -> usize
     ensures value { result ≡ at + length (all_bytes (channel_numbers channel)) }
     ensures row_after { row.new ≡ sets row.old at (all_bytes (channel_numbers channel)) }
 {
-    let phase = channel.phase;
-    let asked = channel.asked;
-    let marks = channel.inactive;
     let second = put_one(row, at, flag_number(channel.ever));
     let third = put_one(row, second, channel.clock);
-    let fourth = put_one(row, third, phase_number(phase));
-    let fifth = put_asked(row, fourth, asked);
-    let sixth = put_one(row, fifth, marks_number(marks));
+    let fourth = put_one(row, third, phase_number(channel.phase));
+    let fifth = put_asked(row, fourth, channel.asked);
+    let sixth = put_one(row, fifth, marks_number(channel.inactive));
     put_requests(row, sixth, channel)
 }
 
@@ -136,26 +123,23 @@ pub(crate) fn put_bytes(from: &[u8], out: &mut [u8], at: usize)
     requires { at + length from.now ≤ length out.old }
     ensures { out.new ≡ sets out.old at from.now }
 {
-    let mut i: usize = 0;
-    while i < from.len() {
-        out[at + i] = from[i];
-        i += 1;
-    }
+    let end = at + from.len();
+    out[at..end].copy_from_slice(from);
 }
 
 // Writes bytes from a place on, whole or not at all.
-pub(crate) fn put_whole(from: &[u8], out: &mut [u8], at: usize) -> NumberWritten
+pub(crate) fn put_whole(from: &[u8], out: &mut [u8], at: usize) -> Result<usize, Refusal>
     ensures value { result ≡ whole_at out.old at from.now }
     ensures out_after { out.new ≡ whole_after out.old at from.now }
 {
     if out.len() < at {
-        return NumberWritten::Refused(Refusal::NoRoom);
+        return Err(Refusal::NoRoom);
     }
     if out.len() - at < from.len() {
-        return NumberWritten::Refused(Refusal::NoRoom);
+        return Err(Refusal::NoRoom);
     }
     put_bytes(from, out, at);
-    NumberWritten::Past(at + from.len())
+    Ok(at + from.len())
 }
 
 // Lays a sheet's head, given as the list of its numbers, as the set-up's part of an image: the layout number before it, and the
@@ -166,9 +150,7 @@ pub(crate) fn put_head(row: &mut [u8], list: &[u32], master: u32) -> usize
     ensures row_after { row.new ≡ sets row.old 0 (head_bytes list.now master) }
 {
     let first = put_one(row, 0, LAYOUT);
-    let written = numbers::write_numbers(list, row, first);
-    match written {
-        NumberWritten::Past(last) => put_one(row, last, master),
-        NumberWritten::Refused(_) => first,
-    }
+    // there is room for them
+    let last = numbers::write_numbers(list, row, first).unwrap();
+    put_one(row, last, master)
 }

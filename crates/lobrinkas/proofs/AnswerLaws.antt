@@ -6,11 +6,12 @@ use mathlib.Core.Bool.{Bool, true, false, cond, not, ◌&&◌, ◌||◌}
 use mathlib.Core.List.{List, [], ◌∷◌}
 use lib.ListN.{length}
 use lib.Dec.{eqb, leb, ltb}
+use Rattle.std.specs.Prelude.{Err, Ok, Result}
+use Rattle.act.specs.declared.Entry.{Entry}
+use Rattle.refusal.specs.declared.Refusal.{Refusal}
 use Rattle.basics.specs.Limits.{steps_most}
 use Rattle.basics.proofs.Tests.{by_test}
-use Rattle.refusal.specs.Refusal.{refusal_number, refusal_by, refused_by, verdict_number}
-use Rattle.refusal.specs.declared.Verdict.{Verdict}
-use Rattle.refusal.specs.declared.Verdict.TheVariants.{Accepted, Refused}
+use Rattle.refusal.specs.Refusal.{accepted, refusal_number, refusal_by, refused_by, verdict_number}
 use Rattle.frame.specs.declared.Setup.{Setup}
 use Rattle.frame.specs.declared.Order.{Order}
 use Rattle.frame.specs.Frame.{is_framed}
@@ -25,14 +26,13 @@ use Rattle.tally.specs.declared.Tally.{Tally}
 use Rattle.step.specs.declared.Plan.{Plan}
 use Rattle.step.specs.declared.Plan.TheVariants as plan
 use Rattle.step.specs.declared.Stepped.{Stepped as Step}
-use Rattle.step.specs.declared.StepAnswer.{StepAnswer}
-use Rattle.step.specs.declared.StepAnswer.TheVariants.{Done, Refused as NotDone}
 use Rattle.step.specs.Plan.{act_plan, ready_verdict, plan_by, plan_of}
 use Rattle.step.specs.Step.{advanced_by, step_of}
 use Rattle.step.proofs.PlanLaws.{says}
 use Rattle.why.specs.Why.{why_of}
 use Rattle.image.specs.Layout.{image_bytes, image_most}
 use Rattle.image.specs.Image.{imaged, read_image}
+use Rattle.image.proofs.ImageLaws.{imaged_whole}
 use Rattle.lobrinkas.specs.declared.Told.{Told}
 use Rattle.lobrinkas.specs.Calls.{
   has_image_room,
@@ -66,8 +66,8 @@ abbrev pub Known : ℕ → Type 0
 Known number = (eqb number 9 || eqb number 18) ≡ false
 
 -- a row of a call's refusals, and then the next
-row_known : (n : ℕ) (holds : Bool) (rest : Verdict) → Known (refusal_number (refusal_by n)) → Known (verdict_number rest)
-    → Known (verdict_number (cond holds (Refused (refusal_by n)) rest))
+row_known : (n : ℕ) (holds : Bool) (rest : Result Unit Refusal) → Known (refusal_number (refusal_by n)) → Known (verdict_number rest)
+    → Known (verdict_number (cond holds (Err (refusal_by n)) rest))
 row_known n true rest k l = k
 row_known n false rest k l = l
 
@@ -81,16 +81,16 @@ module _ (setup : Setup) (ch : Channel) (framed : is_framed setup ≡ true) (sou
       (row_known 1 (not (is_present setup.levels p.level))
       (refused_by ((2, has_request ch.left p.level) ∷ []) (request_verdict setup p.level q)) refl
       (row_known 2 (has_request ch.left p.level) (request_verdict setup p.level q) refl
-      (row_known 3 (not (is_in_range q)) (refused_by ((4, not (is_inside_slave setup q)) ∷ (5, is_outside_master setup q) ∷ []) Accepted) refl
-      (row_known 4 (not (is_inside_slave setup q)) (refused_by ((5, is_outside_master setup q) ∷ []) Accepted) refl
-      (row_known 5 (is_outside_master setup q) Accepted refl refl)))))
+      (row_known 3 (not (is_in_range q)) (refused_by ((4, not (is_inside_slave setup q)) ∷ (5, is_outside_master setup q) ∷ []) accepted) refl
+      (row_known 4 (not (is_inside_slave setup q)) (refused_by ((5, is_outside_master setup q) ∷ []) accepted) refl
+      (row_known 5 (is_outside_master setup q) accepted refl refl)))))
 
   -- a step and a run: 8,
   ready_known : (slave master : ℕ) → Known (verdict_number (ready_verdict setup ch slave master))
   unfolding ready_verdict
   ready_known slave master =
       rw (framed, sound)
-      (row_known 8 (not (eqb slave (slave_store_length setup.slaves) && eqb master setup.master)) Accepted refl refl)
+      (row_known 8 (not (eqb slave (slave_store_length setup.slaves) && eqb master setup.master)) accepted refl refl)
 
   -- a step: 6 where the clock is full
   abbrev KnownPlan : Plan → Type 0
@@ -107,13 +107,13 @@ module _ (setup : Setup) (ch : Channel) (framed : is_framed setup ≡ true) (sou
   act_known (plan.Leave owner) e = tt
   act_known (plan.Cycle owner) e = tt
 
-  plan_known : (v : Verdict) → Known (verdict_number v) → KnownPlan (plan_by setup ch v)
-  plan_known Accepted k = act_known (act_plan setup ch) refl
-  plan_known (Refused why) k = k
+  plan_known : (v : Result Unit Refusal) → Known (verdict_number v) → KnownPlan (plan_by setup ch v)
+  plan_known (Ok _) k = act_known (act_plan setup ch) refl
+  plan_known (Err why) k = k
 
-  abbrev KnownAnswer : StepAnswer → Type 0
-  KnownAnswer (Done entry) = Unit
-  KnownAnswer (NotDone why) = Known (refusal_number why)
+  abbrev KnownAnswer : Result Entry Refusal → Type 0
+  KnownAnswer (Ok entry) = Unit
+  KnownAnswer (Err why) = Known (refusal_number why)
 
   advanced_known : (p : Plan) → KnownPlan p → KnownAnswer (advanced_by setup ch p).answer
   advanced_known (plan.Refused why) k = k
@@ -129,30 +129,30 @@ module _ (setup : Setup) (ch : Channel) (framed : is_framed setup ≡ true) (sou
       (plan_known (ready_verdict setup ch (length slave) (length master)) (ready_known (length slave) (length master)))
 
   -- the calls' answers: these, 17 and 0
-  answer_known : (v : Verdict) (next : Channel) (image : List ℕ) (n : ℕ) → Known (verdict_number v) → Known (answer_by v setup next image n).result.refusal
-  answer_known (Refused why) next image n k = k
-  answer_known Accepted next image n k = by_test (has_image_room setup next image) (λ t. rw t refl) (λ f. rw f refl)
+  answer_known : (v : Result Unit Refusal) (next : Channel) (image : List ℕ) (n : ℕ) → Known (verdict_number v) → Known (answer_by v setup next image n).result.refusal
+  answer_known (Err why) next image n k = k
+  answer_known (Ok _) next image n k = by_test (has_image_room setup next image) (λ t. rw t refl) (λ f. rw f refl)
 
-  stepped_known : (a : StepAnswer) (step : Step) (t : Tally) (image : List ℕ) (n : ℕ) (slave master : List ℕ) → KnownAnswer a
+  stepped_known : (a : Result Entry Refusal) (step : Step) (t : Tally) (image : List ℕ) (n : ℕ) (slave master : List ℕ) → KnownAnswer a
       → Known (step_answered a setup ch step t image n slave master).result.refusal
-  stepped_known (NotDone why) step t image n slave master k = k
-  stepped_known (Done entry) step t image n slave master k =
+  stepped_known (Err why) step t image n slave master k = k
+  stepped_known (Ok entry) step t image n slave master k =
       by_test (has_image_room setup step.channel image)
       (λ room. rw (room, made_step entry (length (image_bytes setup step.channel)) step.tally) refl)
       (λ none. rw none refl)
 
-  ran_known : (v : Verdict) (t : Tally) (budget : ℕ) (image : List ℕ) (n : ℕ) (slave master : List ℕ) → Known (verdict_number v)
+  ran_known : (v : Result Unit Refusal) (t : Tally) (budget : ℕ) (image : List ℕ) (n : ℕ) (slave master : List ℕ) → Known (verdict_number v)
       → Known (run_ready v setup ch t budget image n slave master).result.refusal
-  ran_known (Refused why) t budget image n slave master k = k
-  ran_known Accepted t budget image n slave master k =
+  ran_known (Err why) t budget image n slave master k = k
+  ran_known (Ok _) t budget image n slave master k =
       by_test (ltb steps_most budget)
       (λ long. rw long refl)
       (λ few. by_test (leb image_most (length image)) (λ room. rw (few, room) refl) (λ none. rw (few, none) refl))
 
 -- Neither 9 nor 18, whatever is called.
 module _ (m : Machine) (r : Restorable m) where
-  reads : read_image m.memory m.used ≡ imaged (setup_in m) (channel_in m) Accepted
-  reads = λ i. imaged (setup_in m) (channel_in m) (r.read i)
+  reads : read_image m.memory m.used ≡ imaged (setup_in m) (channel_in m)
+  reads = imaged_whole (read_image m.memory m.used) r.read
 
   step_answers : (t : Tally) (slave master : List ℕ) → Known (lobrinkas_step m.memory m.used slave master t).result.refusal
   step_answers t slave master =

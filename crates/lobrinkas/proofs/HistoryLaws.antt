@@ -9,10 +9,11 @@ use borrow.Author.Tests.{ltb-true, leb-true, le-leb}
 use lib.ListN.{length, take, drop, length-append}
 use lib.Seq.{sets-eq, take-take, take_at, length-take-le}
 use lib.Dec.{eqb, ltb}
+use Rattle.std.specs.Prelude.{Err, Ok, Result}
+use Rattle.act.specs.declared.Entry.{Entry}
+use Rattle.refusal.specs.declared.Refusal.{Refusal}
 use Rattle.basics.proofs.Tests.{by_test}
-use Rattle.refusal.specs.Refusal.{refusal_number, refusal_by}
-use Rattle.refusal.specs.declared.Verdict.{Verdict}
-use Rattle.refusal.specs.declared.Verdict.TheVariants.{Accepted, Refused}
+use Rattle.refusal.specs.Refusal.{accepted, refusal_number, refusal_by}
 use Rattle.refusal.proofs.NumberLaws.{not_zero}
 use Rattle.number.specs.Number.{top, shortest, bytes_of, Bytes}
 use Rattle.numbers.specs.Numbers.{all_bytes}
@@ -27,13 +28,21 @@ use Rattle.sound.specs.Sound.{is_sound}
 use Rattle.post.specs.Post.{post_of}
 use Rattle.post.proofs.PostLaws.{refused_same}
 use Rattle.tally.specs.declared.Tally.{Tally}
-use Rattle.step.specs.declared.StepAnswer.{StepAnswer}
-use Rattle.step.specs.declared.StepAnswer.TheVariants.{Done, Refused as NotDone}
 use Rattle.step.specs.Plan.{ready_verdict, plan_of}
 use Rattle.step.specs.Step.{step_of}
-use Rattle.image.specs.declared.Imaged.{Imaged}
 use Rattle.image.specs.Layout.{setup_numbers, channel_numbers, image_bytes}
-use Rattle.image.specs.Image.{imaged, read_setup, read_channel, read_image, read_head}
+use Rattle.image.specs.Image.{
+  Imaged,
+  imaged,
+  read_setup,
+  read_channel,
+  read_image,
+  read_head,
+  imaged_verdict,
+  imaged_setup,
+  imaged_channel,
+}
+use Rattle.image.proofs.ImageLaws.{imaged_whole}
 use Rattle.image.proofs.ImageLaws.{laid_front}
 use Rattle.image.proofs.LongestLaws.{image_most_lem}
 use Rattle.image.proofs.Writable.{Writable, sound_writable}
@@ -129,7 +138,7 @@ unless_short number c = cond (eqb number 17) [] (c ∷ [])
 
 -- The machine stands at a moment: its image is that of the set-up and the channel then, and reads as these; its stores are those then.
 pub record Stands (setup : Setup) (now : Moment) (m : Machine) : Type 0 where
-  pub read : read_image m.memory m.used ≡ imaged setup now.channel Accepted
+  pub read : read_image m.memory m.used ≡ imaged setup now.channel
   pub image : take m.used m.memory ≡ image_bytes setup now.channel
   pub moment : moment_of now.channel m ≡ now
 
@@ -156,7 +165,7 @@ written_stands setup now memory w s room =
       read =
           ap (λ (x : List ℕ). read_image x (length bytes)) (sets-eq bytes memory 0 (omega (arith, room)))
           ∙ image_read setup ch (drop (0 + length bytes) memory) (sound_writable setup ch w.framed s.sound w.wide s.shaped)
-          ∙ ap (λ (x : Setup). imaged x ch Accepted) w.tidy;
+          ∙ ap (λ (x : Setup). imaged x ch) w.tidy;
       image = laid_front memory bytes (length bytes) room refl refl;
       moment = refl;
     }
@@ -194,12 +203,12 @@ module _ (setup : Setup) (ch : Channel) (m : Machine) (w : Whole setup) (s : Sta
   PostFollows p a =
       Follows setup (moment_of ch m) (unless_short a.result.refusal (plain.post p)) (with_image m a.image a.result.length)
 
-  post_by_lem : (p : Order) (v : Verdict) → (post_of setup ch p).verdict ≡ v
+  post_by_lem : (p : Order) (v : Result Unit Refusal) → (post_of setup ch p).verdict ≡ v
       → PostFollows p (answer_by v setup (post_of setup ch p).channel m.memory m.used)
   unfolding post_of
-  post_by_lem p (Refused why) v =
+  post_by_lem p (Err why) v =
       stays_either (refusal_number why) (plain.post p) (ap (λ (x : Channel). moment_of x m) (refused_same setup ch p (rw v)))
-  post_by_lem p Accepted v =
+  post_by_lem p (Ok _) v =
       by_test (has_image_room setup (post_of setup ch p).channel m.memory)
       (λ room. rw room (writes (plain.post p) (leb-true _ _ room)))
       (λ none. rw none (stays [] refl))
@@ -208,12 +217,12 @@ module _ (setup : Setup) (ch : Channel) (m : Machine) (w : Whole setup) (s : Sta
   abbrev StepFollows : Tally → Stepping → Type 0
   StepFollows t a = Follows setup (moment_of ch m) (unless_short a.result.refusal (plain.step t)) (after_step a)
 
-  step_by_lem : (t : Tally) (a : StepAnswer) → (step_of setup ch t m.slave m.master).answer ≡ a
+  step_by_lem : (t : Tally) (a : Result Entry Refusal) → (step_of setup ch t m.slave m.master).answer ≡ a
       → StepFollows t (step_answered a setup ch (step_of setup ch t m.slave m.master) t m.memory m.used m.slave m.master)
-  step_by_lem t (NotDone why) v =
+  step_by_lem t (Err why) v =
       let k = refused_step_lem setup ch t m.slave m.master why v in
       stays_either (refusal_number why) (plain.step t) (λ i. record { channel = k.channel i; slave = k.slave i; master = k.master i })
-  step_by_lem t (Done entry) v =
+  step_by_lem t (Ok entry) v =
       let next = step_of setup ch t m.slave m.master in
       let n = length (image_bytes setup next.channel) in
       by_test (has_image_room setup next.channel m.memory)
@@ -235,7 +244,7 @@ module _ (setup : Setup) (ch : Channel) (m : Machine) (w : Whole setup) (s : Sta
       (writes (plain.run t budget) (omega (arith, room, image_most_lem setup _ w.framed later.sound later.shaped)))
 
   -- over stores of other lengths all is refused by 8
-  stray_verdict : (slave master : List ℕ) → Differ setup slave master → ready_verdict setup ch (length slave) (length master) ≡ Refused (refusal_by 8)
+  stray_verdict : (slave master : List ℕ) → Differ setup slave master → ready_verdict setup ch (length slave) (length master) ≡ Err (refusal_by 8)
   unfolding ready_verdict
   stray_verdict slave master d = rw (w.framed, s.sound, d)
 
@@ -304,9 +313,9 @@ stands_restorable setup now m w s here =
     let fits = (sound_writable setup ch w.framed s.sound w.wide s.shaped).fits in
     record {
       bytes = subst Bytes (sym here.image) (list_bytes (setup_numbers setup ++ channel_numbers ch) fits);
-      read = ap (λ (i : Imaged). i.verdict) here.read;
-      framed = ap (λ (i : Imaged). is_framed i.setup) here.read ∙ w.framed;
-      sound = ap (λ (i : Imaged). is_sound i.setup i.channel) here.read ∙ s.sound;
+      read = ap imaged_verdict here.read;
+      framed = ap (λ (i : Imaged). is_framed (imaged_setup i)) here.read ∙ w.framed;
+      sound = ap (λ (i : Imaged). is_sound (imaged_setup i) (imaged_channel i)) here.read ∙ s.sound;
     }
 
 -- the image alone reads as it does with what stands behind it
@@ -318,13 +327,13 @@ alone_read bytes n h =
 
 -- and a machine to restore stands at its own moment, from which a history may start
 module _ (m : Machine) (r : Restorable m) where
-  reads : read_image m.memory m.used ≡ imaged (setup_in m) (channel_in m) Accepted
-  reads = λ i. imaged (setup_in m) (channel_in m) (r.read i)
+  reads : read_image m.memory m.used ≡ imaged (setup_in m) (channel_in m)
+  reads = imaged_whole (read_image m.memory m.used) r.read
 
   inside : m.used ≤ length m.memory
   inside = (image_parts m.memory m.used reads).inside
 
-  reads_alone : read_image (take m.used m.memory) m.used ≡ imaged (setup_in m) (channel_in m) Accepted
+  reads_alone : read_image (take m.used m.memory) m.used ≡ imaged (setup_in m) (channel_in m)
   reads_alone = alone_read m.memory m.used inside ∙ reads
 
   writable : Writable (setup_in m) (channel_in m)
@@ -361,10 +370,10 @@ after_restore m r calls =
     let w = restored_whole m r in
     let f = all_follow setup (channel_in m) m w start (restored_stands m r) calls in
     let d = demand_3 setup first (calls_since m calls) start in
-    let now : channel_in (machine_then m calls) ≡ (called_all setup first (calls_since m calls)).channel = ap (λ (i : Imaged). i.channel) f.read in
+    let now : channel_in (machine_then m calls) ≡ (called_all setup first (calls_since m calls)).channel = ap imaged_channel f.read in
     record {
       saved = stands_restorable setup _ (machine_then m calls) w (called_start setup first (calls_since m calls) start) f;
-      setup = ap (λ (i : Imaged). i.setup) f.read;
+      setup = ap imaged_setup f.read;
       moment = ap (λ (x : Channel). moment_of x (machine_then m calls)) now ∙ f.moment;
       image = f.image ∙ ap (image_bytes setup) (sym now);
       sums = λ l. d.sums l ∙ ap (λ (x : Channel). bytes_moved setup first l (acts_since m calls) + (request_of x l).left) (sym now);
@@ -373,23 +382,23 @@ after_restore m r calls =
 
 -- an accepted set-up: the head was read, its set-up keeps the frame, and the image of the fresh channel had room
 pub record SetUpMade (memory head : List ℕ) (master : ℕ) : Type 0 where
-  pub read : (read_head head master).verdict ≡ Accepted
-  pub framed : is_framed (read_head head master).setup ≡ true
-  pub room : length (image_bytes (read_head head master).setup fresh_channel) ≤ length memory
+  pub read : imaged_verdict (read_head head master) ≡ accepted
+  pub framed : is_framed (imaged_setup (read_head head master)) ≡ true
+  pub room : length (image_bytes (imaged_setup (read_head head master)) fresh_channel) ≤ length memory
   pub is : lobrinkas_set_up memory head master
-      ≡ answering (accepted_answer 0 (length (image_bytes (read_head head master).setup fresh_channel)))
-      (image_after (read_head head master).setup fresh_channel memory)
+      ≡ answering (accepted_answer 0 (length (image_bytes (imaged_setup (read_head head master)) fresh_channel)))
+      (image_after (imaged_setup (read_head head master)) fresh_channel memory)
 
 set_up_made : (memory head : List ℕ) (master : ℕ) → (lobrinkas_set_up memory head master).result.refusal ≡ 0 → SetUpMade memory head master
 unfolding lobrinkas_set_up set_up
-set_up_made memory head master zero_is = by (read_head head master).verdict refl
+set_up_made memory head master zero_is = by (imaged_verdict (read_head head master)) refl
   where
-    by : (v : Verdict) → (read_head head master).verdict ≡ v → SetUpMade memory head master
-    by (Refused why) v = absurd (not_zero why (rw v at zero_is))
-    by Accepted v =
-        by_test (is_framed (read_head head master).setup)
+    by : (v : Result Unit Refusal) → imaged_verdict (read_head head master) ≡ v → SetUpMade memory head master
+    by (Err why) v = absurd (not_zero why (rw v at zero_is))
+    by (Ok _) v =
+        by_test (is_framed (imaged_setup (read_head head master)))
         (λ t.
-        by_test (has_image_room (read_head head master).setup fresh_channel memory)
+        by_test (has_image_room (imaged_setup (read_head head master)) fresh_channel memory)
         (λ room. record { read = v; framed = t; room = leb-true _ _ room; is = rw (v, t, room) })
         (λ none. let z : ◌≡◌ {A = ℕ} 17 0 = rw (v, t, none) at zero_is in absurd (omega arith)))
         (λ f. let z : ◌≡◌ {A = ℕ} 9 0 = rw (v, f) at zero_is in absurd (omega arith))
@@ -399,15 +408,15 @@ module _ (memory head : List ℕ) (n : ℕ) (slave master : List ℕ) (accepted 
   made : SetUpMade memory head n
   made = set_up_made memory head n accepted
 
-  head_is : read_head head n ≡ imaged (read_head head n).setup (read_head head n).channel Accepted
-  head_is = λ i. imaged (read_head head n).setup (read_head head n).channel (made.read i)
+  head_is : read_head head n ≡ imaged (imaged_setup (read_head head n)) (imaged_channel (read_head head n))
+  head_is = imaged_whole (read_head head n) made.read
 
-  first_whole : Whole (read_head head n).setup
+  first_whole : Whole (imaged_setup (read_head head n))
   first_whole = record { framed = made.framed; wide = (head_read_lem head n head_is).wide; tidy = head_tidied head n head_is }
 
-  first_stands : Stands (read_head head n).setup (set_up_with slave master) (first_machine memory head n slave master)
+  first_stands : Stands (imaged_setup (read_head head n)) (set_up_with slave master) (first_machine memory head n slave master)
   first_stands =
-      let setup = (read_head head n).setup in
+      let setup = imaged_setup (read_head head n) in
       let same : first_machine memory head n slave master ≡ laid setup (set_up_with slave master) memory =
       ap (λ (a : Answered). record { memory = a.image; used = a.result.length; slave = slave; master = master }) made.is in
       subst (Stands setup (set_up_with slave master)) (sym same)
@@ -415,13 +424,13 @@ module _ (memory head : List ℕ) (n : ℕ) (slave master : List ℕ) (accepted 
 
   pub first_made : FirstMade (first_machine memory head n slave master) head n
   first_made =
-      let setup = (read_head head n).setup in
+      let setup = imaged_setup (read_head head n) in
       record {
         restorable =
             stands_restorable setup (set_up_with slave master) (first_machine memory head n slave master) first_whole (fresh_start setup slave master)
             first_stands;
-        setup = ap (λ (i : Imaged). i.setup) first_stands.read;
-        fresh = ap (λ (i : Imaged). i.channel) first_stands.read;
+        setup = ap imaged_setup first_stands.read;
+        fresh = ap imaged_channel first_stands.read;
       }
 
   -- Demand 3 from set-up on.

@@ -6,11 +6,10 @@ use mathlib.Core.List.{List}
 use borrow.Author.Tests.{ltb-true, leb-true, leb-false}
 use lib.ListN.{length}
 use lib.Dec.{leb, ltb}
+use Rattle.std.specs.Prelude.{Err, Ok, Result}
 use Rattle.basics.specs.Limits.{steps_most}
 use Rattle.refusal.specs.Refusal.{refusal_by}
 use Rattle.refusal.specs.declared.Refusal.{Refusal}
-use Rattle.refusal.specs.declared.Verdict.{Verdict}
-use Rattle.refusal.specs.declared.Verdict.TheVariants.{Accepted, Refused}
 use Rattle.basics.proofs.Tests.{by_test}
 use Rattle.frame.specs.declared.Setup.{Setup}
 use Rattle.frame.specs.declared.Order.{Order}
@@ -21,14 +20,12 @@ use Rattle.tally.specs.declared.Tally.{Tally}
 use Rattle.act.specs.declared.Entry.{Entry}
 use Rattle.act.specs.declared.Entry.TheVariants.{Idle, Grant, Cycle, Release}
 use Rattle.step.specs.declared.Stepped.{Stepped as Step}
-use Rattle.step.specs.declared.StepAnswer.{StepAnswer}
-use Rattle.step.specs.declared.StepAnswer.TheVariants.{Done, Refused as NotDone}
 use Rattle.step.specs.Plan.{ready_verdict}
 use Rattle.step.specs.Step.{step_of}
 use Rattle.step.specs.Run.{world, stopped, run_of}
 use Rattle.why.specs.Why.{why_of}
 use Rattle.image.specs.Layout.{image_most}
-use Rattle.image.specs.Image.{imaged, read_image, read_head}
+use Rattle.image.specs.Image.{imaged, read_image, read_head, imaged_verdict, imaged_setup, imaged_channel}
 use Rattle.demands.proofs.RefusedLaws.{refused_run_lem, long_run}
 use Rattle.lobrinkas.specs.Answers.{cycle_step, step_by, told_by}
 use Rattle.lobrinkas.specs.Calls.{
@@ -53,7 +50,7 @@ use Rattle.lobrinkas.specs.Calls.{
 }
 
 -- an image that reads as this set-up and this channel
-module _ (image : List ℕ) (n : ℕ) {setup : Setup} {ch : Channel} (e : read_image image n ≡ imaged setup ch Accepted) where
+module _ (image : List ℕ) (n : ℕ) {setup : Setup} {ch : Channel} (e : read_image image n ≡ imaged setup ch) where
   -- A post is the plain post: its refusal, or the image of its channel where that has room.
   pub plain_post : (p : Order) → lobrinkas_post image n p ≡ answer_by (post_of setup ch p).verdict setup (post_of setup ch p).channel image n
   unfolding lobrinkas_post
@@ -74,16 +71,16 @@ module _ (image : List ℕ) (n : ℕ) {setup : Setup} {ch : Channel} (e : read_i
   -- plain run's stop, steps and tally, both stores after it and the image of its channel.
   module _ (slave master : List ℕ) (t : Tally) (budget : ℕ) where
     pub data PlainRun : Type 0 where
-      run_refused_lem : (why : Refusal) → run_of setup budget (world ch t slave master) ≡ stopped (Refused why) 0 (world ch t slave master)
+      run_refused_lem : (why : Refusal) → run_of setup budget (world ch t slave master) ≡ stopped (Err why) 0 (world ch t slave master)
           → lobrinkas_run image n slave master t budget ≡ run_refused why t image n slave master → PlainRun
       run_short : length image < image_most → lobrinkas_run image n slave master t budget ≡ run_refused (refusal_by 17) t image n slave master → PlainRun
       run_made_lem : image_most ≤ length image → lobrinkas_run image n slave master t budget
           ≡ run_done setup (run_of setup budget (world ch t slave master)) image → PlainRun
 
-    by_ready : (v : Verdict) → ready_verdict setup ch (length slave) (length master) ≡ v → PlainRun
+    by_ready : (v : Result Unit Refusal) → ready_verdict setup ch (length slave) (length master) ≡ v → PlainRun
     unfolding lobrinkas_run
-    by_ready (Refused why) v = run_refused_lem why (refused_run_lem setup budget (world ch t slave master) why v) (rw (e, v))
-    by_ready Accepted v =
+    by_ready (Err why) v = run_refused_lem why (refused_run_lem setup budget (world ch t slave master) why v) (rw (e, v))
+    by_ready (Ok _) v =
         by_test (ltb steps_most budget)
         (λ long. run_refused_lem (refusal_by 7) (long_run setup budget (world ch t slave master) v (ltb-true steps_most budget long)) (rw (e, v, long)))
         (λ few.
@@ -99,10 +96,10 @@ pub record AnswerLeaves (a : Answered) (memory : List ℕ) (n : ℕ) : Type 0 wh
   pub image : a.image ≡ memory
   pub length : a.result.length ≡ n
 
-answer_leaves : (v : Verdict) (setup : Setup) (ch : Channel) (image : List ℕ) (n : ℕ) → ((answer_by v setup ch image n).result.refusal ≡ 0 → ⊥)
+answer_leaves : (v : Result Unit Refusal) (setup : Setup) (ch : Channel) (image : List ℕ) (n : ℕ) → ((answer_by v setup ch image n).result.refusal ≡ 0 → ⊥)
     → AnswerLeaves (answer_by v setup ch image n) image n
-answer_leaves (Refused why) setup ch image n refused = record { image = refl; length = refl }
-answer_leaves Accepted setup ch image n refused =
+answer_leaves (Err why) setup ch image n refused = record { image = refl; length = refl }
+answer_leaves (Ok _) setup ch image n refused =
     by_test (has_image_room setup ch image)
     (λ t. absurd (refused (rw t)))
     (λ f. record { image = rw f; length = rw f })
@@ -110,22 +107,22 @@ answer_leaves Accepted setup ch image n refused =
 pub refused_set_up : (image head : List ℕ) (master : ℕ) → ((lobrinkas_set_up image head master).result.refusal ≡ 0 → ⊥)
     → AnswerLeaves (lobrinkas_set_up image head master) image 0
 unfolding lobrinkas_set_up
-refused_set_up image head master refused = by (read_head head master).verdict refused
+refused_set_up image head master refused = by (imaged_verdict (read_head head master)) refused
   where
-    by : (v : Verdict) → ((set_up_by v (read_head head master).setup image).result.refusal ≡ 0 → ⊥)
-        → AnswerLeaves (set_up_by v (read_head head master).setup image) image 0
-    by (Refused why) refused = record { image = refl; length = refl }
-    by Accepted refused = answer_leaves (set_up (read_head head master).setup).verdict (read_head head master).setup _ image 0 refused
+    by : (v : Result Unit Refusal) → ((set_up_by v (imaged_setup (read_head head master)) image).result.refusal ≡ 0 → ⊥)
+        → AnswerLeaves (set_up_by v (imaged_setup (read_head head master)) image) image 0
+    by (Err why) refused = record { image = refl; length = refl }
+    by (Ok _) refused = answer_leaves (set_up (imaged_setup (read_head head master))).verdict (imaged_setup (read_head head master)) _ image 0 refused
 
 pub refused_post : (image : List ℕ) (n : ℕ) (p : Order) → ((lobrinkas_post image n p).result.refusal ≡ 0 → ⊥)
     → AnswerLeaves (lobrinkas_post image n p) image n
 unfolding lobrinkas_post
-refused_post image n p refused = by (read_image image n).verdict refused
+refused_post image n p refused = by (imaged_verdict (read_image image n)) refused
   where
-    by : (v : Verdict) → ((post_by v (read_image image n).setup (read_image image n).channel p image n).result.refusal ≡ 0 → ⊥)
-        → AnswerLeaves (post_by v (read_image image n).setup (read_image image n).channel p image n) image n
-    by (Refused why) refused = record { image = refl; length = refl }
-    by Accepted refused = answer_leaves (post_of (read_image image n).setup (read_image image n).channel p).verdict (read_image image n).setup _ image n refused
+    by : (v : Result Unit Refusal) → ((post_by v (imaged_setup (read_image image n)) (imaged_channel (read_image image n)) p image n).result.refusal ≡ 0 → ⊥)
+        → AnswerLeaves (post_by v (imaged_setup (read_image image n)) (imaged_channel (read_image image n)) p image n) image n
+    by (Err why) refused = record { image = refl; length = refl }
+    by (Ok _) refused = answer_leaves (post_of (imaged_setup (read_image image n)) (imaged_channel (read_image image n)) p).verdict (imaged_setup (read_image image n)) _ image n refused
 
 -- the answer of a step that was made has no refusal, and the new image's length
 pub made_step : (entry : Entry) (n : ℕ) (t : Tally) → (step_by entry n t).refusal ≡ 0
@@ -150,12 +147,12 @@ pub record StepLeaves (s : Stepping) (memory : List ℕ) (n : ℕ) (store own : 
   pub master : s.master ≡ own
   pub tally : s.result.tally ≡ t
 
-step_leaves : (a : StepAnswer) (setup : Setup) (ch : Channel) (step : Step) (t : Tally) (image : List ℕ) (n : ℕ) (slave master : List ℕ)
+step_leaves : (a : Result Entry Refusal) (setup : Setup) (ch : Channel) (step : Step) (t : Tally) (image : List ℕ) (n : ℕ) (slave master : List ℕ)
     → ((step_answered a setup ch step t image n slave master).result.refusal ≡ 0 → ⊥)
     → StepLeaves (step_answered a setup ch step t image n slave master) image n slave master t
-step_leaves (NotDone why) setup ch step t image n slave master refused =
+step_leaves (Err why) setup ch step t image n slave master refused =
     record { image = refl; length = refl; slave = refl; master = refl; tally = refl }
-step_leaves (Done entry) setup ch step t image n slave master refused =
+step_leaves (Ok entry) setup ch step t image n slave master refused =
     by_test (has_image_room setup step.channel image)
     (λ room. absurd (refused (rw room (made_step entry _ step.tally))))
     (λ none. record { image = rw none; length = rw none; slave = rw none; master = rw none; tally = rw none })
@@ -163,14 +160,14 @@ step_leaves (Done entry) setup ch step t image n slave master refused =
 pub refused_step_lem : (image : List ℕ) (n : ℕ) (slave master : List ℕ) (t : Tally) → ((lobrinkas_step image n slave master t).result.refusal ≡ 0 → ⊥)
     → StepLeaves (lobrinkas_step image n slave master t) image n slave master t
 unfolding lobrinkas_step
-refused_step_lem image n slave master t refused = by (read_image image n).verdict refused
+refused_step_lem image n slave master t refused = by (imaged_verdict (read_image image n)) refused
   where
-    by : (v : Verdict) → ((stepping_by v (read_image image n).setup (read_image image n).channel t image n slave master).result.refusal ≡ 0 → ⊥)
-        → StepLeaves (stepping_by v (read_image image n).setup (read_image image n).channel t image n slave master) image n slave master t
-    by (Refused why) refused = record { image = refl; length = refl; slave = refl; master = refl; tally = refl }
-    by Accepted refused =
-        step_leaves (step_of (read_image image n).setup (read_image image n).channel t slave master).answer (read_image image n).setup
-        (read_image image n).channel _ t image n slave master refused
+    by : (v : Result Unit Refusal) → ((stepping_by v (imaged_setup (read_image image n)) (imaged_channel (read_image image n)) t image n slave master).result.refusal ≡ 0 → ⊥)
+        → StepLeaves (stepping_by v (imaged_setup (read_image image n)) (imaged_channel (read_image image n)) t image n slave master) image n slave master t
+    by (Err why) refused = record { image = refl; length = refl; slave = refl; master = refl; tally = refl }
+    by (Ok _) refused =
+        step_leaves (step_of (imaged_setup (read_image image n)) (imaged_channel (read_image image n)) t slave master).answer (imaged_setup (read_image image n))
+        (imaged_channel (read_image image n)) _ t image n slave master refused
 
 -- A refused run leaves the same, and did no step. One that the clock stopped is not refused: 6 is its stop.
 pub record RunLeaves (r : RunAnswered) (memory : List ℕ) (n : ℕ) (store own : List ℕ) (t : Tally) : Type 0 where
@@ -181,12 +178,12 @@ pub record RunLeaves (r : RunAnswered) (memory : List ℕ) (n : ℕ) (store own 
   pub tally : r.result.tally ≡ t
   pub steps : r.result.steps ≡ 0
 
-run_leaves : (v : Verdict) (setup : Setup) (ch : Channel) (t : Tally) (budget : ℕ) (image : List ℕ) (n : ℕ) (slave master : List ℕ)
+run_leaves : (v : Result Unit Refusal) (setup : Setup) (ch : Channel) (t : Tally) (budget : ℕ) (image : List ℕ) (n : ℕ) (slave master : List ℕ)
     → ((run_ready v setup ch t budget image n slave master).result.refusal ≡ 0 → ⊥)
     → RunLeaves (run_ready v setup ch t budget image n slave master) image n slave master t
-run_leaves (Refused why) setup ch t budget image n slave master refused =
+run_leaves (Err why) setup ch t budget image n slave master refused =
     record { image = refl; length = refl; slave = refl; master = refl; tally = refl; steps = refl }
-run_leaves Accepted setup ch t budget image n slave master refused =
+run_leaves (Ok _) setup ch t budget image n slave master refused =
     by_test (ltb steps_most budget)
     (λ long. record { image = rw long; length = rw long; slave = rw long; master = rw long; tally = rw long; steps = rw long })
     (λ few.
@@ -206,12 +203,12 @@ pub refused_running : (image : List ℕ) (n : ℕ) (slave master : List ℕ) (t 
     → ((lobrinkas_run image n slave master t budget).result.refusal ≡ 0 → ⊥)
     → RunLeaves (lobrinkas_run image n slave master t budget) image n slave master t
 unfolding lobrinkas_run
-refused_running image n slave master t budget refused = by (read_image image n).verdict refused
+refused_running image n slave master t budget refused = by (imaged_verdict (read_image image n)) refused
   where
-    by : (v : Verdict)
-        → ((run_answered_by v (read_image image n).setup (read_image image n).channel t budget image n slave master).result.refusal ≡ 0 → ⊥)
-        → RunLeaves (run_answered_by v (read_image image n).setup (read_image image n).channel t budget image n slave master) image n slave master t
-    by (Refused why) refused = record { image = refl; length = refl; slave = refl; master = refl; tally = refl; steps = refl }
-    by Accepted refused =
-        run_leaves (ready_verdict (read_image image n).setup (read_image image n).channel (length slave) (length master)) (read_image image n).setup
-        (read_image image n).channel t budget image n slave master refused
+    by : (v : Result Unit Refusal)
+        → ((run_answered_by v (imaged_setup (read_image image n)) (imaged_channel (read_image image n)) t budget image n slave master).result.refusal ≡ 0 → ⊥)
+        → RunLeaves (run_answered_by v (imaged_setup (read_image image n)) (imaged_channel (read_image image n)) t budget image n slave master) image n slave master t
+    by (Err why) refused = record { image = refl; length = refl; slave = refl; master = refl; tally = refl; steps = refl }
+    by (Ok _) refused =
+        run_leaves (ready_verdict (imaged_setup (read_image image n)) (imaged_channel (read_image image n)) (length slave) (length master)) (imaged_setup (read_image image n))
+        (imaged_channel (read_image image n)) t budget image n slave master refused

@@ -7,13 +7,13 @@ use native.Mathlib.Omega.{arith}
 use borrow.Author.Tests.{le-leb, lt-leb}
 use lib.ListN.{length, replicate}
 use lib.Dec.{eqb, leb, ltb}
+use Rattle.std.specs.Prelude.{Err, Ok, Result}
+use Rattle.act.specs.declared.Entry.{Entry}
 use Rattle.basics.specs.Limits.{steps_most}
 use Rattle.basics.proofs.Tests.{by_test}
-use Rattle.refusal.specs.Refusal.{refusal_number, verdict_number, refused_by}
+use Rattle.refusal.specs.Refusal.{accepted, refusal_number, verdict_number, refused_by}
 use Rattle.refusal.specs.declared.Refusal.{Refusal}
 use Rattle.refusal.specs.declared.Refusal.TheVariants.{ClockFull, StoreLength, Unsound, Malformed}
-use Rattle.refusal.specs.declared.Verdict.{Verdict}
-use Rattle.refusal.specs.declared.Verdict.TheVariants.{Accepted, Refused}
 use Rattle.frame.specs.declared.Setup.{Setup}
 use Rattle.frame.specs.Frame.{is_framed}
 use Rattle.frame.specs.Find.{slave_store_length}
@@ -23,8 +23,6 @@ use Rattle.sound.specs.Sound.{is_sound}
 use Rattle.tally.specs.declared.Tally.{Tally}
 use Rattle.step.specs.declared.Plan.{Plan}
 use Rattle.step.specs.declared.Plan.TheVariants as plan
-use Rattle.step.specs.declared.StepAnswer.{StepAnswer}
-use Rattle.step.specs.declared.StepAnswer.TheVariants.{Done, Refused as NotDone}
 use Rattle.step.specs.declared.Ran.{Ran as Run}
 use Rattle.step.specs.Plan.{act_plan, ready_verdict}
 use Rattle.step.specs.Step.{Ready, step_of, advanced_by}
@@ -57,16 +55,16 @@ unfolding lobrinkas_run
 run_malformed image n bad slave master t budget = rw (← bad)
 
 -- memory without room for the longest image
-short_is : (v : Verdict) (setup : Setup) (ch : Channel) (t : Tally) (budget n : ℕ) (image slave master : List ℕ) → leb image_most (length image) ≡ false
+short_is : (v : Result Unit Refusal) (setup : Setup) (ch : Channel) (t : Tally) (budget n : ℕ) (image slave master : List ℕ) → leb image_most (length image) ≡ false
     → running (refused_ran (short_by v budget) n t) image slave master ≡ run_ready v setup ch t budget image n slave master
-short_is (Refused why) setup ch t budget n image slave master f = refl
-short_is Accepted setup ch t budget n image slave master f = by_test (ltb steps_most budget) (λ b. rw b) (λ b. rw (b, f))
+short_is (Err why) setup ch t budget n image slave master f = refl
+short_is (Ok _) setup ch t budget n image slave master f = by_test (ltb steps_most budget) (λ b. rw b) (λ b. rw (b, f))
 
 -- a run of no steps is tested as any other, and does nothing
-none_by : (setup : Setup) (w : World) (v : Verdict) → run_by setup v 0 w ≡ stopped v 0 w
+none_by : (setup : Setup) (w : World) (v : Result Unit Refusal) → run_by setup v 0 w ≡ stopped v 0 w
 unfolding run_from
-none_by setup w (Refused why) = refl
-none_by setup w Accepted = refl
+none_by setup w (Err why) = refl
+none_by setup w (Ok _) = refl
 
 none_run : (setup : Setup) (w : World) → run_of setup 0 w ≡ stopped (ready_verdict setup w.channel (length w.slave) (length w.master)) 0 w
 unfolding run_of
@@ -82,7 +80,7 @@ none_done setup ch t slave master ran =
       (ran.1.0 ∙ ap (λ (o : Out). o.slave) none, ran.1.1 ∙ ap (λ (o : Out). o.master) none),
     )
 
-module _ (setup : Setup) (ch : Channel) (image : List ℕ) (n : ℕ) (read : imaged setup ch Accepted ≡ read_image image n)
+module _ (setup : Setup) (ch : Channel) (image : List ℕ) (n : ℕ) (read : imaged setup ch ≡ read_image image n)
     (slave master : List ℕ) (t : Tally) (budget : ℕ) where
   pub run_short : length image < image_most
       → running (refused_ran (short_run setup ch (length slave) (length master) budget) n t) image slave master ≡ lobrinkas_run image n slave master t budget
@@ -92,7 +90,7 @@ module _ (setup : Setup) (ch : Channel) (image : List ℕ) (n : ℕ) (read : ima
       (short_is (ready_verdict setup ch (length slave) (length master)) setup ch t budget n image slave master (lt-leb image_most (length image) h))
 
 -- a step of a channel that is ready is refused by 6 alone
-full_by : (setup : Setup) (ch : Channel) (p : Plan) (why : Refusal) → act_plan setup ch ≡ p → (advanced_by setup ch p).answer ≡ NotDone why → why ≡ ClockFull
+full_by : (setup : Setup) (ch : Channel) (p : Plan) (why : Refusal) → act_plan setup ch ≡ p → (advanced_by setup ch p).answer ≡ Err why → why ≡ ClockFull
 full_by setup ch plan.Idle why is e = let z : ◌≡◌ {A = ℕ} 0 1 = cc in absurd (omega arith)
 full_by setup ch (plan.Refused r) why is e =
     let said = says setup ch (plan.Refused r) is in
@@ -105,7 +103,7 @@ full_by setup ch (plan.Cycle o) why is e = let z : ◌≡◌ {A = ℕ} 0 1 = cc 
 abbrev ReadyIn : Setup → World → Type 0
 ReadyIn setup w = Ready setup w.channel (length w.slave) (length w.master) × Shaped w.channel
 
-only_full : (setup : Setup) (w : World) → ReadyIn setup w → (why : Refusal) → (step_in setup w).answer ≡ NotDone why → why ≡ ClockFull
+only_full : (setup : Setup) (w : World) → ReadyIn setup w → (why : Refusal) → (step_in setup w).answer ≡ Err why → why ≡ ClockFull
 unfolding step_of
 only_full setup w r why e =
     let p = plan_ready setup w.channel (length w.slave) (length w.master) r.0 in
@@ -122,10 +120,10 @@ run_ends setup (suc left) done w r =
     go (step_in setup w).answer refl
     (run_ends setup left (suc done) (world_after setup w) (ready_next setup w.channel w.tally w.slave w.master r.0 r.1))
   where
-    go : (a : StepAnswer) → (step_in setup w).answer ≡ a → Ends (run_from setup left (suc done) (world_after setup w))
-        → Ends (go_on a (run_from setup left (suc done) (world_after setup w)) (λ (v : Verdict). stopped v done w))
-    go (Done entry) e later = later
-    go (NotDone why) e later = rw (only_full setup w r why e) refl
+    go : (a : Result Entry Refusal) → (step_in setup w).answer ≡ a → Ends (run_from setup left (suc done) (world_after setup w))
+        → Ends (go_on a (run_from setup left (suc done) (world_after setup w)) (λ (v : Result Unit Refusal). stopped v done w))
+    go (Ok entry) e later = later
+    go (Err why) e later = rw (only_full setup w r why e) refl
 
 -- the channel after a run is sound, and its image no longer than the longest
 run_room : (setup : Setup) (budget : ℕ) (w : World) → ReadyIn setup w → length (image_bytes setup (run_of setup budget w).result.channel) ≤ image_most
@@ -144,12 +142,12 @@ ended left out = running left.result left.image out.slave out.master
 abbrev is_refusal : ℕ → Bool
 is_refusal number = not (eqb number 0) && not (eqb number 6)
 
-by_rows : (a b : Bool) (why : Refusal) → refused_by ((9, a) ∷ (8, b) ∷ []) Accepted ≡ Refused why → is_refusal (refusal_number why) ≡ true
+by_rows : (a b : Bool) (why : Refusal) → refused_by ((9, a) ∷ (8, b) ∷ []) accepted ≡ Err why → is_refusal (refusal_number why) ≡ true
 by_rows true b why e = let same : Unsound ≡ why = cc in rw (← same) refl
 by_rows false true why e = let same : StoreLength ≡ why = cc in rw (← same) refl
 by_rows false false why e = let z : ◌≡◌ {A = ℕ} 0 1 = cc in absurd (omega arith)
 
-nine_eight : (setup : Setup) (ch : Channel) (s m : ℕ) (why : Refusal) → ready_verdict setup ch s m ≡ Refused why → is_refusal (refusal_number why) ≡ true
+nine_eight : (setup : Setup) (ch : Channel) (s m : ℕ) (why : Refusal) → ready_verdict setup ch s m ≡ Err why → is_refusal (refusal_number why) ≡ true
 unfolding ready_verdict
 nine_eight setup ch s m why e =
     by_rows (not (is_framed setup && is_sound setup ch)) (not (eqb s (slave_store_length setup.slaves) && eqb m setup.master)) why e
@@ -169,16 +167,16 @@ module _ (setup : Setup) (ch : Channel) (image : List ℕ) (n start : ℕ) (tail
       let room = tail_room setup image start tail out.result.channel (le-leb _ (length image) (omega arith)) in
       rw (run_ends setup budget 0 w r, room.0, room.1)
 
-  run_same : ready_verdict setup ch (length slave) (length master) ≡ Accepted → ltb steps_most budget ≡ false
+  run_same : ready_verdict setup ch (length slave) (length master) ≡ accepted → ltb steps_most budget ≡ false
       → run_of setup budget w ≡ run_from setup budget 0 w
   unfolding run_of
   run_same e f = rw (e, f)
 
-  made_by : Shaped ch → image_most ≤ length image → (v : Verdict) → ready_verdict setup ch (length slave) (length master) ≡ v
+  made_by : Shaped ch → image_most ≤ length image → (v : Result Unit Refusal) → ready_verdict setup ch (length slave) (length master) ≡ v
       → ended (run_finished (run_by setup v budget w).result t image n start) (run_by setup v budget w) ≡ run_ready v setup ch t budget image n slave master
   unfolding run_finished
-  made_by k h (Refused why) e = rw (nine_eight setup ch (length slave) (length master) why e)
-  made_by k h Accepted e =
+  made_by k h (Err why) e = rw (nine_eight setup ch (length slave) (length master) why e)
+  made_by k h (Ok _) e =
       by_test (ltb steps_most budget)
       (λ b. rw b)
       (λ f.
@@ -186,7 +184,7 @@ module _ (setup : Setup) (ch : Channel) (image : List ℕ) (n start : ℕ) (tail
       let same = run_same e f in
       rw (f, le-leb image_most (length image) h) (done_is r h same ∙ ap (λ (o : Out). run_done setup o image) (sym same)))
 
-  pub run_is : Shaped ch → image_most ≤ length image → imaged setup ch Accepted ≡ read_image image n
+  pub run_is : Shaped ch → image_most ≤ length image → imaged setup ch ≡ read_image image n
       → ended (run_finished (run_of setup budget w).result t image n start) (run_of setup budget w) ≡ lobrinkas_run image n slave master t budget
   unfolding run_of lobrinkas_run
   run_is k h read = rw (← read) (made_by k h (ready_verdict setup ch (length slave) (length master)) refl)

@@ -1,46 +1,29 @@
 -- The first image: what a head's list gives, the frame's test, and the image written. Assumes nothing.
 use Prim.Native.Nat.{ℕ}
-use mathlib.Core.Path.{◌≡◌, refl, ap, ◌∙◌}
-use mathlib.Core.Bool.{Bool, true, false, cond}
+use mathlib.Core.Path.{◌≡◌, ap, ◌∙◌}
+use mathlib.Core.Bool.{true}
 use mathlib.Core.List.{List}
 use native.Mathlib.Nat.{zero-add}
 use native.Mathlib.Omega.{arith}
 use borrow.Author.Tests.{leb-true, leb-false}
 use lib.ListN.{length}
-use lib.Dec.{ltb}
 use Rattle.basics.proofs.Tests.{by_test}
-use Rattle.refusal.specs.declared.Refusal.{Refusal}
-use Rattle.refusal.specs.declared.Verdict.TheVariants.{Accepted, Refused}
 use Rattle.number.proofs.Laws.{whole, not_whole}
-use Rattle.numbers.specs.declared.Part.{Part}
-use Rattle.numbers.specs.declared.Part.TheVariants.{Good, Fault}
 use Rattle.frame.specs.declared.Setup.{Setup}
 use Rattle.frame.specs.Frame.{is_framed}
 use Rattle.channel.specs.declared.Channel.{Channel}
 use Rattle.channel.specs.Channel.{fresh_channel, set_up}
 use Rattle.sound.specs.Sound.{is_sound}
 use Rattle.demands.proofs.DemandLaws.{fresh_start}
-use Rattle.image.specs.declared.Imaged.{Imaged}
 use Rattle.image.specs.Layout.{image_bytes}
-use Rattle.image.specs.Image.{malformed, then_image, read_setup, head_read, head_bytes, read_head, write_image, write_image_after}
-use Rattle.lobrinkas.specs.Answers.{refused_answer}
-use Rattle.lobrinkas.specs.Calls.{answering, has_image_room, answer_by, lobrinkas_set_up}
+use Rattle.image.specs.Image.{imaged, read_head, write_image, write_image_after}
+use Rattle.image.proofs.WrittenBack.{head_read_lem}
+use Rattle.lobrinkas.specs.Calls.{has_image_room, answer_by, lobrinkas_set_up}
 use Rattle.lobrinkas.specs.inner.Finish.{set_up_finished}
 
--- whatever a list says, the channel with it is that after set-up
-fresh_by : (j : Part) (f : ℕ → Imaged) → ((at : ℕ) → (f at).channel ≡ fresh_channel) → (then_image j f).channel ≡ fresh_channel
-fresh_by (Good at) f h = h at
-fresh_by (Fault why p) f h = refl
-
-fresh_if : (b : Bool) (i : Imaged) → i.channel ≡ fresh_channel → (cond b malformed i).channel ≡ fresh_channel
-fresh_if true i e = refl
-fresh_if false i e = e
-
-head_fresh : (list : List ℕ) (master : ℕ) → (read_head list master).channel ≡ fresh_channel
-unfolding read_head head_read
-head_fresh list master =
-    let bytes = head_bytes list master in
-    fresh_by (read_setup bytes (length bytes)).part _ (λ end. fresh_if (ltb end (length bytes)) _ refl)
+-- the channel with what a list says is that after set-up
+head_fresh : (list : List ℕ) (master : ℕ) {setup : Setup} {ch : Channel} → read_head list master ≡ imaged setup ch → ch ≡ fresh_channel
+head_fresh list master e = (head_read_lem list master e).channel_is
 
 module _ (setup : Setup) (image : List ℕ) where
   sound : is_sound setup fresh_channel ≡ true
@@ -61,13 +44,8 @@ module _ (setup : Setup) (image : List ℕ) where
       rw (t, sound, f, w.0, w.1)))
       (λ f. rw f)
 
-module _ (image head : List ℕ) (master : ℕ) {read : Imaged} (is : read ≡ read_head head master) where
-  pub set_up_refused : {why : Refusal} → read.verdict ≡ Refused why → answering (refused_answer why 0) image ≡ lobrinkas_set_up image head master
-  unfolding lobrinkas_set_up
-  set_up_refused e = rw (← is, e)
-
-  pub set_up_done : read.verdict ≡ Accepted → set_up_finished read.setup read.channel image ≡ lobrinkas_set_up image head master
-  unfolding lobrinkas_set_up
-  set_up_done e =
-      let fresh = ap (λ (i : Imaged). i.channel) is ∙ head_fresh head master in
-      ap (λ (ch : Channel). set_up_finished read.setup ch image) fresh ∙ rw (← is, e) (set_up_is read.setup image)
+pub set_up_done : (image head : List ℕ) (master : ℕ) {setup : Setup} {ch : Channel} → read_head head master ≡ imaged setup ch
+    → set_up_finished setup ch image ≡ lobrinkas_set_up image head master
+unfolding lobrinkas_set_up
+set_up_done image head master {setup} e =
+    ap (λ (ch : Channel). set_up_finished setup ch image) (head_fresh head master e) ∙ rw e (set_up_is setup image)

@@ -1,11 +1,8 @@
 -- Document 02, CR 1: what a call answers a host in C, in plain numbers. A refused call answers its number, and gives back the length that it was handed.
-use Rattle.std.specs.Prelude.{ℕ}
+use Rattle.std.specs.Prelude.{ℕ, None, Option, Some, Result, Ok, Err}
 use Rattle.refusal.specs.Refusal.{refusal_number, verdict_number}
 use Rattle.refusal.specs.declared.Refusal.{Refusal}
-use Rattle.cycle.specs.declared.Counted.{Counted as Count}
 use Rattle.tally.specs.declared.Tally.{Tally}
-use Rattle.act.specs.declared.Hold.{Hold}
-use Rattle.act.specs.declared.Hold.TheVariants.{Unasked, After}
 use Rattle.act.specs.declared.Ending.{Ending}
 use Rattle.act.specs.declared.Ending.TheVariants.{Kept, Released, Marked}
 use Rattle.act.specs.declared.CycleEntry.{CycleEntry}
@@ -13,7 +10,7 @@ use Rattle.act.specs.declared.Entry.{Entry}
 use Rattle.act.specs.declared.Entry.TheVariants.{Idle, Grant, Cycle, Release}
 use Rattle.act.specs.Entry.{ending_number, letter_of}
 use Rattle.step.specs.declared.Ran.{Ran as Run}
-use Rattle.why.specs.declared.Told.{Told as Why}
+use Rattle.why.specs.declared.Reason.{Reason}
 use Rattle.why.specs.Reason.{reason_number, reason_level}
 use Rattle.lobrinkas.specs.declared.Answer.{Answer}
 use Rattle.lobrinkas.specs.declared.Stepped.{Stepped}
@@ -29,13 +26,13 @@ abbrev pub accepted_answer : ℕ → ℕ → Answer
 accepted_answer clock n = record { refusal = 0; clock = clock; length = n }
 
 -- a step. "at a release, the clock less the asked time or that there was none": 1 and that time, or 0 and 0
-abbrev pub asked_of : Hold → ℕ
-asked_of Unasked = 0
-asked_of (After time) = 1
+abbrev pub asked_of : Option ℕ → ℕ
+asked_of None = 0
+asked_of (Some time) = 1
 
-abbrev pub time_of : Hold → ℕ
-time_of Unasked = 0
-time_of (After time) = time
+abbrev pub time_of : Option ℕ → ℕ
+time_of None = 0
+time_of (Some time) = time
 
 abbrev pub asked_in : Ending → ℕ
 asked_in Kept = 0
@@ -48,7 +45,7 @@ time_in (Released hold) = time_of hold
 time_in (Marked time) = time
 
 -- what the line of a step does not show is 0; of a refused step all is, but for the tally
-abbrev pub bare_step : ℕ → ℕ → ℕ → ℕ → ℕ → Hold → Tally → Stepped
+abbrev pub bare_step : ℕ → ℕ → ℕ → ℕ → ℕ → Option ℕ → Tally → Stepped
 bare_step refusal kind n clock level hold t =
     record {
       refusal = refusal;
@@ -68,7 +65,7 @@ bare_step refusal kind n clock level hold t =
     }
 
 abbrev pub refused_step : Refusal → ℕ → Tally → Stepped
-refused_step why n t = bare_step (refusal_number why) 0 n 0 0 Unasked t
+refused_step why n t = bare_step (refusal_number why) 0 n 0 0 None t
 
 -- "C: level, address, bytes, direction, first master lane, first slave lane, then .."
 unfoldable pub cycle_step : CycleEntry → ℕ → Tally → Stepped
@@ -91,8 +88,8 @@ cycle_step e n t =
     }
 
 abbrev pub step_by : Entry → ℕ → Tally → Stepped
-step_by (Idle clock) n t = bare_step 0 (letter_of (Idle clock)) n clock 0 Unasked t
-step_by (Grant clock owner) n t = bare_step 0 (letter_of (Grant clock owner)) n clock owner Unasked t
+step_by (Idle clock) n t = bare_step 0 (letter_of (Idle clock)) n clock 0 None t
+step_by (Grant clock owner) n t = bare_step 0 (letter_of (Grant clock owner)) n clock owner None t
 step_by (Cycle e) n t = cycle_step e n t
 step_by (Release clock level hold) n t = bare_step 0 (letter_of (Release clock level hold)) n clock level hold t
 
@@ -114,13 +111,15 @@ done_run run n =
       tally = run.tally;
     }
 
--- a cycle count
-abbrev pub count_by : Count → Counted
-count_by c = record { refusal = verdict_number c.verdict; cycles = c.cycles }
+-- a cycle count. "a refused cycle count gives 0"
+abbrev pub count_by : Result ℕ Refusal → Counted
+count_by (Ok cycles) = record { refusal = 0; cycles = cycles }
+count_by (Err why) = record { refusal = refusal_number why; cycles = 0 }
 
 -- document 02, CR 3: why a level waits, the reason's number and the level that it names; of a refused call both are 0
 abbrev pub refused_told : Refusal → Told
 refused_told why = record { refusal = refusal_number why; reason = 0; level = 0 }
 
-abbrev pub told_by : Why → Told
-told_by w = record { refusal = verdict_number w.verdict; reason = reason_number w.reason; level = reason_level w.reason }
+abbrev pub told_by : Result Reason Refusal → Told
+told_by (Ok reason) = record { refusal = 0; reason = reason_number reason; level = reason_level reason }
+told_by (Err why) = refused_told why

@@ -5,7 +5,7 @@ use Rattle.frame.specs.declared.Setup.{Setup}
 use Rattle.frame.specs.declared.Order.{Order}
 use Rattle.channel.specs.declared.Channel.{Channel}
 use Rattle.tally.specs.declared.Tally.{Tally}
-use Rattle.image.specs.Image.{read_image}
+use Rattle.image.specs.Image.{read_image, imaged_setup, imaged_channel}
 use Rattle.demands.specs.History.{Moment}
 use Rattle.demands.specs.Calls.{Differ, Call}
 use Rattle.demands.specs.Calls as plain
@@ -20,10 +20,10 @@ pub record Machine : Type 0 where
 
 -- what it says: the set-up and the channel that its image reads as, and the moment of a history that this is
 abbrev pub setup_in : Machine → Setup
-setup_in m = (read_image m.memory m.used).setup
+setup_in m = imaged_setup (read_image m.memory m.used)
 
 abbrev pub channel_in : Machine → Channel
-channel_in m = (read_image m.memory m.used).channel
+channel_in m = imaged_channel (read_image m.memory m.used)
 
 abbrev pub moment_in : Machine → Moment
 moment_in m = record { channel = channel_in m; slave = m.slave; master = m.master }

@@ -1,14 +1,14 @@
 -- Document 02, CR 1: "After a restore demand 3 counts from the restored channel: bytes open then plus bytes asked since equal bytes moved since plus bytes open
 -- now, and the bound runs from its asked time, if any. What is open in the restored channel counts as posted there, and its owner as granted there."
 -- Said of the host's own calls on its own bytes; the theorems are `after_restore` and `after_first` in proofs/HistoryLaws.
+use Rattle.refusal.specs.Refusal.{accepted}
 use Rattle.std.specs.Prelude.{ℕ, ◌+◌, ◌≡◌, true, List, take}
-use Rattle.refusal.specs.declared.Verdict.TheVariants.{Accepted}
 use Rattle.number.specs.Number.{Bytes}
 use Rattle.frame.specs.Frame.{is_framed}
 use Rattle.channel.specs.Channel.{request_of, fresh_channel}
 use Rattle.sound.specs.Sound.{is_sound}
 use Rattle.image.specs.Layout.{image_bytes}
-use Rattle.image.specs.Image.{read_image, read_head}
+use Rattle.image.specs.Image.{read_image, read_head, imaged_verdict, imaged_setup}
 use Rattle.demands.specs.History.{Act}
 use Rattle.demands.specs.Calls.{Call, called_all, acts_over}
 use Rattle.demands.specs.Demand.{bytes_asked, bytes_moved, Demand3, set_up_with, AfterSetUp}
@@ -18,7 +18,7 @@ use Rattle.lobrinkas.specs.History.{Machine, setup_in, channel_in, moment_in, Ho
 -- A machine that a host may restore: any bytes that are an image, whose set-up keeps the frame and whose channel is sound, in any memory; and any stores.
 pub record Restorable (m : Machine) : Type 0 where
   pub bytes : Bytes (take m.used m.memory)
-  pub read : (read_image m.memory m.used).verdict ≡ Accepted
+  pub read : imaged_verdict (read_image m.memory m.used) ≡ accepted
   pub framed : is_framed (setup_in m) ≡ true
   pub sound : is_sound (setup_in m) (channel_in m) ≡ true
 
@@ -61,7 +61,7 @@ first_machine memory head length slave master =
 -- It is one to restore; its set-up is the head's, and its channel the fresh one.
 pub record FirstMade (m : Machine) (head : List ℕ) (length : ℕ) : Type 0 where
   pub restorable : Restorable m
-  pub setup : setup_in m ≡ (read_head head length).setup
+  pub setup : setup_in m ≡ (imaged_setup (read_head head length))
   pub fresh : channel_in m ≡ fresh_channel
 
 -- So over any calls of the host demand 3 holds as it does "after set-up", where nothing is open and nobody owns the channel.

@@ -5,9 +5,10 @@ ghost use Rattle.lobrinkas.specs.Answers.{refused_answer, asked_of, time_of, ask
 ghost use Rattle.lobrinkas.specs.Answers.{refused_ran_by, refused_ran, refused_told, told_by};
 
 use crate::{Answer, Ran, Stepped, Told};
-use act::{CycleEntry, Ending, Entry, Hold};
+use act::{CycleEntry, Ending, Entry};
 use refusal::Refusal;
 use tally::Tally;
+use why::Reason;
 
 // Whether an owner had been asked, and how long before its release; and how its cycle ended.
 #[derive(Clone, Copy)]
@@ -22,22 +23,22 @@ pub(crate) fn refused_answer(why: Refusal, length: usize) -> Answer
     ensures { result ≡ refused_answer why length }
 {
     Answer {
-        refusal: refusal::refusal_number(why) as u32,
+        refusal: u32::from(refusal::refusal_number(why)),
         clock: 0,
         length,
     }
 }
 
-fn held_by(hold: Hold) -> Held
+fn held_by(hold: Option<u32>) -> Held
     ensures { result ≡ record { ending = 1; asked = asked_of hold; hold = time_of hold } }
 {
     match hold {
-        Hold::Unasked => Held {
+        None => Held {
             ending: 1,
             asked: 0,
             hold: 0,
         },
-        Hold::After(time) => Held {
+        Some(time) => Held {
             ending: 1,
             asked: 1,
             hold: time,
@@ -70,7 +71,7 @@ fn bare_step(
     length: usize,
     clock: u32,
     level: u8,
-    hold: Hold,
+    hold: Option<u32>,
     tally: Tally,
 ) -> Stepped
     ensures { result ≡ bare_step refusal kind length clock level hold tally }
@@ -81,7 +82,7 @@ fn bare_step(
         kind,
         length,
         clock,
-        level: level as u32,
+        level: u32::from(level),
         address: 0,
         bytes: 0,
         direction: 0,
@@ -98,30 +99,29 @@ fn bare_step(
 pub(crate) fn refused_step(why: Refusal, length: usize, tally: Tally) -> Stepped
     ensures { result ≡ refused_step why length tally }
 {
-    let hold = Hold::Unasked;
     bare_step(
-        refusal::refusal_number(why) as u32,
+        u32::from(refusal::refusal_number(why)),
         0,
         length,
         0,
         0,
-        hold,
+        None,
         tally,
     )
 }
 
 // A step that ran a cycle.
+#[tactic(auto, unfolding(crate::specs::Answers::cycle_step))]
 fn cycle_step(entry: CycleEntry, length: usize, tally: Tally) -> Stepped
     ensures { result ≡ cycle_step entry length tally }
 {
-    let ending = entry.ending;
-    let held = held_at(ending);
+    let held = held_at(entry.ending);
     Stepped {
         refusal: 0,
         kind: 67,
         length,
         clock: entry.clock,
-        level: entry.level as u32,
+        level: u32::from(entry.level),
         address: entry.address,
         bytes: entry.bytes,
         direction: entry.direction,
@@ -138,10 +138,9 @@ fn cycle_step(entry: CycleEntry, length: usize, tally: Tally) -> Stepped
 pub(crate) fn step_by(entry: Entry, length: usize, tally: Tally) -> Stepped
     ensures { result ≡ step_by entry length tally }
 {
-    let none = Hold::Unasked;
     match entry {
-        Entry::Idle(clock) => bare_step(0, 73, length, clock, 0, none, tally),
-        Entry::Grant(clock, owner) => bare_step(0, 71, length, clock, owner, none, tally),
+        Entry::Idle(clock) => bare_step(0, 73, length, clock, 0, None, tally),
+        Entry::Grant(clock, owner) => bare_step(0, 71, length, clock, owner, None, tally),
         Entry::Cycle(cycle) => cycle_step(cycle, length, tally),
         Entry::Release(clock, level, hold) => bare_step(0, 82, length, clock, level, hold, tally),
     }
@@ -165,7 +164,7 @@ pub(crate) fn refused_run_by(number: u32, length: usize, tally: Tally) -> Ran
 pub(crate) fn refused_run(why: Refusal, length: usize, tally: Tally) -> Ran
     ensures { result ≡ refused_ran why length tally }
 {
-    refused_run_by(refusal::refusal_number(why) as u32, length, tally)
+    refused_run_by(u32::from(refusal::refusal_number(why)), length, tally)
 }
 
 // A refused question.
@@ -173,24 +172,22 @@ pub(crate) fn refused_told(refusal: Refusal) -> Told
     ensures { result ≡ refused_told refusal }
 {
     Told {
-        refusal: refusal::refusal_number(refusal) as u32,
+        refusal: u32::from(refusal::refusal_number(refusal)),
         reason: 0,
         level: 0,
     }
 }
 
 // What the plain call told.
-pub(crate) fn told_by(told: why::Told) -> Told
+pub(crate) fn told_by(told: Result<Reason, Refusal>) -> Told
     ensures { result ≡ told_by told }
 {
-    let verdict = told.verdict;
-    let reason = told.reason;
-    let refused = refusal::verdict_number(verdict);
-    let number = why::reason_number(reason);
-    let named = why::reason_level(reason);
-    Told {
-        refusal: refused as u32,
-        reason: number as u32,
-        level: named as u32,
+    match told {
+        Err(why) => refused_told(why),
+        Ok(reason) => Told {
+            refusal: 0,
+            reason: u32::from(why::reason_number(reason)),
+            level: u32::from(why::reason_level(reason)),
+        },
     }
 }

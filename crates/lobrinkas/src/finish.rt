@@ -1,5 +1,5 @@
 // How a call ends: the plain call was made, its new image is written where the set-up's part ends, whole or not at all, and only
-// then bytes move.
+// then bytes move. A function for each call, as each answers in a struct of its own in C.
 ghost use Rattle.std.specs.Prelude.{◌≡◌, length};
 ghost use Rattle.lobrinkas.specs.Calls.{answering, stepping};
 ghost use Rattle.lobrinkas.specs.inner.Finish.{answer_finished, step_finished, run_finished, short_run, set_up_finished, run_left};
@@ -9,27 +9,25 @@ use crate::{Answer, Ran, Stepped};
 use basics::STEPS_MOST;
 use channel::{Channel, Judged};
 use frame::Setup;
-use number::NumberWritten;
-use refusal::{Refusal, Verdict};
-use step::{Decision, StepAnswer};
+use refusal::Refusal;
+use step::Decision;
 use tally::Tally;
 
 // A post.
+#[tactic(auto, unfolding(crate::specs::inner::Finish::answer_finished))]
 pub(crate) fn finish_answer(image: &mut [u8], length: usize, start: usize, judged: Judged) -> Answer
     ensures { answering result image.new ≡ answer_finished judged image.old length start }
 {
     let verdict = judged.verdict;
     match verdict {
-        Verdict::Refused(why) => refused_answer(why, length),
-        Verdict::Accepted => {
+        Err(why) => refused_answer(why, length),
+        Ok(()) => {
             let next = judged.channel;
-            let clock = next.clock;
-            let written = image::write_channel(next, image, start);
-            match written {
-                NumberWritten::Refused(why) => refused_answer(why, length),
-                NumberWritten::Past(end) => Answer {
+            match image::write_channel(next, image, start) {
+                Err(why) => refused_answer(why, length),
+                Ok(end) => Answer {
                     refusal: 0,
-                    clock,
+                    clock: next.clock,
                     length: end,
                 },
             }
@@ -38,13 +36,13 @@ pub(crate) fn finish_answer(image: &mut [u8], length: usize, start: usize, judge
 }
 
 // A set-up: a whole image is written.
+#[tactic(auto, unfolding(crate::specs::inner::Finish::set_up_finished))]
 pub(crate) fn finish_set_up(image: &mut [u8], setup: Setup, channel: Channel) -> Answer
     ensures { answering result image.new ≡ set_up_finished setup channel image.old }
 {
-    let written = image::write_image(setup, channel, image);
-    match written {
-        NumberWritten::Refused(why) => refused_answer(why, 0),
-        NumberWritten::Past(end) => Answer {
+    match image::write_image(setup, channel, image) {
+        Err(why) => refused_answer(why, 0),
+        Ok(end) => Answer {
             refusal: 0,
             clock: channel.clock,
             length: end,
@@ -53,6 +51,7 @@ pub(crate) fn finish_set_up(image: &mut [u8], setup: Setup, channel: Channel) ->
 }
 
 // A step.
+#[tactic(auto, unfolding(crate::specs::inner::Finish::step_finished), using(crate::proofs::FinishLaws::written_none))]
 pub(crate) fn finish_step(
     image: &mut [u8],
     length: usize,
@@ -68,17 +67,13 @@ pub(crate) fn finish_step(
     let stepped = decision.stepped;
     let answer = stepped.answer;
     match answer {
-        StepAnswer::Refused(why) => refused_step(why, length, tally),
-        StepAnswer::Done(entry) => {
-            let next = stepped.channel;
-            let written = image::write_channel(next, image, start);
-            match written {
-                NumberWritten::Refused(why) => refused_step(why, length, tally),
-                NumberWritten::Past(end) => {
-                    let what = decision.carry;
-                    step::carry_bytes(what, slave, master);
-                    let figures = stepped.tally;
-                    step_by(entry, end, figures)
+        Err(why) => refused_step(why, length, tally),
+        Ok(entry) => {
+            match image::write_channel(stepped.channel, image, start) {
+                Err(why) => refused_step(why, length, tally),
+                Ok(end) => {
+                    step::carry_bytes(decision.carry, slave, master);
+                    step_by(entry, end, stepped.tally)
                 }
             }
         }
@@ -101,8 +96,8 @@ pub(crate) fn short_run(
     let tried = step::run(setup, channel, tally, slave, master, 0);
     let verdict = tried.verdict;
     match verdict {
-        Verdict::Refused(why) => why,
-        Verdict::Accepted => {
+        Err(why) => why,
+        Ok(()) => {
             if STEPS_MOST < steps {
                 return Refusal::TooManySteps;
             }
@@ -112,6 +107,7 @@ pub(crate) fn short_run(
 }
 
 // A run that was made. It was refused, or it may have stopped before a step that the clock has no room for, which is no refusal.
+#[tactic(auto, unfolding(crate::specs::inner::Finish::run_finished))]
 pub(crate) fn finish_run(
     image: &mut [u8],
     length: usize,
@@ -122,25 +118,20 @@ pub(crate) fn finish_run(
     ensures { run_left result image.new ≡ run_finished ran tally image.old length start }
 {
     let verdict = ran.verdict;
-    let number = refusal::verdict_number(verdict) as u32;
+    let number = u32::from(refusal::verdict_number(verdict));
     if (number != 0) & (number != 6) {
         return refused_run_by(number, length, tally);
     }
     let next = ran.channel;
-    let clock = next.clock;
-    let written = image::write_channel(next, image, start);
-    match written {
-        NumberWritten::Refused(why) => refused_run(why, length, tally),
-        NumberWritten::Past(end) => {
-            let figures = ran.tally;
-            Ran {
-                refusal: 0,
-                stop: number,
-                length: end,
-                clock,
-                steps: ran.steps,
-                tally: figures,
-            }
-        }
+    match image::write_channel(next, image, start) {
+        Err(why) => refused_run(why, length, tally),
+        Ok(end) => Ran {
+            refusal: 0,
+            stop: number,
+            length: end,
+            clock: next.clock,
+            steps: ran.steps,
+            tally: ran.tally,
+        },
     }
 }

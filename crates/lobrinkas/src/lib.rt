@@ -13,8 +13,7 @@ use answers::{refused_answer, refused_run, refused_step, refused_told, told_by};
 use finish::{finish_answer, finish_run, finish_set_up, finish_step, short_run};
 use frame::Order;
 use image::IMAGE_MOST;
-use numbers::Part;
-use refusal::{Refusal, Verdict};
+use refusal::Refusal;
 use tally::Tally;
 
 // What a set-up or a post answers: the refusal or 0, the clock, the length of the image.
@@ -81,28 +80,24 @@ pub struct Told {
 pub fn lobrinkas_cycle_count(address: u32, bytes: u32, width: u32, port: u32) -> Counted
     ensures { result ≡ lobrinkas_cycle_count address bytes width port }
 {
-    let count = cycle::cycle_count(address, bytes, width, port);
-    let verdict = count.verdict;
-    Counted {
-        refusal: refusal::verdict_number(verdict) as u32,
-        cycles: count.cycles,
+    match cycle::cycle_count(address, bytes, width, port) {
+        Err(why) => Counted {
+            refusal: u32::from(refusal::refusal_number(why)),
+            cycles: 0,
+        },
+        Ok(cycles) => Counted { refusal: 0, cycles },
     }
 }
 
 // The first image of a set-up, which is a sheet's head as a list of numbers and the length of the master store.
+#[tactic(auto, unfolding(crate::specs::Calls::lobrinkas_set_up))]
 pub fn lobrinkas_set_up(image: &mut [u8], head: &[u32], master_length: u32) -> Answer
     ensures value { result ≡ (lobrinkas_set_up image.old head.now master_length).result }
     ensures image_after { image.new ≡ (lobrinkas_set_up image.old head.now master_length).image }
 {
-    let read = image::read_head(head, master_length);
-    let verdict = read.verdict;
-    match verdict {
-        Verdict::Refused(why) => refused_answer(why, 0),
-        Verdict::Accepted => {
-            let setup = read.setup;
-            let channel = read.channel;
-            finish_set_up(image, setup, channel)
-        }
+    match image::read_head(head, master_length) {
+        Err(why) => refused_answer(why, 0),
+        Ok((setup, channel)) => finish_set_up(image, setup, channel),
     }
 }
 
@@ -120,17 +115,13 @@ pub fn lobrinkas_post(
     ensures value { result ≡ (lobrinkas_post image.old length (order level direction space address bytes offset)).result }
     ensures image_after { image.new ≡ (lobrinkas_post image.old length (order level direction space address bytes offset)).image }
 {
-    let head = image::read_setup(image, length);
-    let first = head.part;
-    let Part::Good(start) = first else {
+    let Ok((setup, start)) = image::read_setup(image, length) else {
         return refused_answer(Refusal::Malformed, length);
     };
     let rest = image::read_channel(image, length, start);
-    let last = rest.part;
-    let Part::Good(_) = last else {
+    let Ok(_) = rest.part else {
         return refused_answer(Refusal::Malformed, length);
     };
-    let setup = head.setup;
     let channel = rest.channel;
     let order = Order {
         level,
@@ -156,17 +147,13 @@ pub fn lobrinkas_step(
     ensures slave_after { slave.new ≡ (lobrinkas_step image.old length slave.old master.old tally).slave }
     ensures master_after { master.new ≡ (lobrinkas_step image.old length slave.old master.old tally).master }
 {
-    let head = image::read_setup(image, length);
-    let first = head.part;
-    let Part::Good(start) = first else {
+    let Ok((setup, start)) = image::read_setup(image, length) else {
         return refused_step(Refusal::Malformed, length, tally);
     };
     let rest = image::read_channel(image, length, start);
-    let last = rest.part;
-    let Part::Good(_) = last else {
+    let Ok(_) = rest.part else {
         return refused_step(Refusal::Malformed, length, tally);
     };
-    let setup = head.setup;
     let channel = rest.channel;
     let decision = step::decision_of(setup, channel, tally, slave, master);
     finish_step(image, length, start, decision, slave, master, tally)
@@ -186,17 +173,13 @@ pub fn lobrinkas_run(
     ensures slave_after { slave.new ≡ (lobrinkas_run image.old length slave.old master.old tally steps).slave }
     ensures master_after { master.new ≡ (lobrinkas_run image.old length slave.old master.old tally steps).master }
 {
-    let head = image::read_setup(image, length);
-    let first = head.part;
-    let Part::Good(start) = first else {
+    let Ok((setup, start)) = image::read_setup(image, length) else {
         return refused_run(Refusal::Malformed, length, tally);
     };
     let rest = image::read_channel(image, length, start);
-    let last = rest.part;
-    let Part::Good(_) = last else {
+    let Ok(_) = rest.part else {
         return refused_run(Refusal::Malformed, length, tally);
     };
-    let setup = head.setup;
     let channel = rest.channel;
     if image.len() < IMAGE_MOST {
         return refused_run(
@@ -210,17 +193,12 @@ pub fn lobrinkas_run(
 }
 
 // Why a level waits. The image is only read.
+#[tactic(auto, unfolding(crate::specs::Calls::lobrinkas_why))]
 pub fn lobrinkas_why(image: &[u8], length: usize, level: u32) -> Told
     ensures { result ≡ lobrinkas_why image.now length level }
 {
-    let read = image::read_image(image, length);
-    let verdict = read.verdict;
-    match verdict {
-        Verdict::Refused(refusal) => refused_told(refusal),
-        Verdict::Accepted => {
-            let setup = read.setup;
-            let channel = read.channel;
-            told_by(why::why(setup, channel, level))
-        }
+    match image::read_image(image, length) {
+        Err(why) => refused_told(why),
+        Ok((setup, channel)) => told_by(why::why(setup, channel, level)),
     }
 }

@@ -16,12 +16,9 @@ abbrev pub fields_from : List ℕ → ℕ → ℕ → List ℕ
 fields_from numbers i zero = []
 fields_from numbers i (suc left) = field (get_or numbers i 0) ++ fields_from numbers (suc i) left
 
-abbrev pub line_text_of : ℕ → List ℕ → ℕ → List ℕ
-line_text_of letter numbers count = letter ∷ (fields_from numbers 0 count ++ (10 ∷ []))
-
 -- the text of a line with all the numbers of a list
 abbrev pub line_text : ℕ → List ℕ → List ℕ
-line_text letter numbers = line_text_of letter numbers (length numbers)
+line_text letter numbers = letter ∷ (fields_from numbers 0 (length numbers) ++ (10 ∷ []))
 
 -- a line is written where there is room for the longest of them; otherwise nothing is written, and the place stays
 abbrev pub has_room : ℕ → ℕ → Bool

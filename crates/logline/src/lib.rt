@@ -3,7 +3,7 @@
 
 ghost use Rattle.std.specs.Prelude.{◌≡◌, ◌+◌, ◌≤◌, leb, length};
 ghost use Rattle.std.proofs.lemmas.List.Edits.{sets};
-ghost use Rattle.logline.specs.Text.{digits, field, line_text_of, has_room, place_after, out_after, put_decimal, put_decimal_after};
+ghost use Rattle.logline.specs.Text.{digits, field, line_text, has_room, place_after, out_after, put_decimal, put_decimal_after};
 ghost use Rattle.act.specs.Entry.{ending_number};
 ghost use Rattle.logline.specs.Line.{cycle_text, entry_text, post_text, stop_text, end_text, fault_text};
 
@@ -13,19 +13,13 @@ use act::{CycleEntry, Ending, Entry};
 fn few_digits(n: u32) -> usize
     ensures { result ≡ length (digits 4 n) }
 {
-    if n < 10 {
-        return 1;
+    match n {
+        0..10 => 1,
+        10..100 => 2,
+        100..1000 => 3,
+        1000..10000 => 4,
+        _ => 5,
     }
-    if n < 100 {
-        return 2;
-    }
-    if n < 1000 {
-        return 3;
-    }
-    if n < 10000 {
-        return 4;
-    }
-    5
 }
 
 // How many decimal digits a number has.
@@ -51,11 +45,9 @@ fn put_digits(out: &mut [u8], at: usize, n: u32) -> usize
     }
     let size = digit_count(n);
     let mut rest = n;
-    let mut left = size;
-    while 0 < left {
-        left -= 1;
+    for left in (0..size).rev() {
         out[at + left] = (48 + rest % 10) as u8;
-        rest = rest / 10;
+        rest /= 10;
     }
     at + size
 }
@@ -101,21 +93,19 @@ pub fn has_room(size: usize, at: usize) -> bool
     has_bytes(size, at, LONGEST)
 }
 
-// A letter, the first `count` of the numbers, and the end of the line, where there is room for the longest line.
-fn put_line(out: &mut [u8], at: usize, letter: u8, numbers: [u32; 8], count: usize) -> usize
-    requires { count ≤ 8 }
-    ensures value { result ≡ place_after out.old at (line_text_of letter numbers count) }
-    ensures out_after { out.new ≡ out_after out.old at (line_text_of letter numbers count) }
+// A letter, numbers, and the end of the line, where there is room for the longest line.
+fn put_line(out: &mut [u8], at: usize, letter: u8, numbers: &[u32]) -> usize
+    requires { length numbers.now ≤ 8 }
+    ensures value { result ≡ place_after out.old at (line_text letter numbers.now) }
+    ensures out_after { out.new ≡ out_after out.old at (line_text letter numbers.now) }
 {
     if !has_room(out.len(), at) {
         return at;
     }
     out[at] = letter;
     let mut next = at + 1;
-    let mut i: usize = 0;
-    while i < count {
-        next = put_field(out, next, numbers[i]);
-        i += 1;
+    for number in numbers {
+        next = put_field(out, next, *number);
     }
     out[next] = 10;
     next + 1
@@ -136,8 +126,6 @@ fn put_cycle(out: &mut [u8], at: usize, entry: CycleEntry) -> usize
     ensures value { result ≡ place_after out.old at (cycle_text entry) }
     ensures out_after { out.new ≡ out_after out.old at (cycle_text entry) }
 {
-    let ending = entry.ending;
-    let kept = ending_number(ending);
     let numbers = [
         entry.clock,
         entry.level as u32,
@@ -146,9 +134,9 @@ fn put_cycle(out: &mut [u8], at: usize, entry: CycleEntry) -> usize
         entry.direction,
         entry.master_lane,
         entry.slave_lane,
-        kept,
+        ending_number(entry.ending),
     ];
-    put_line(out, at, b'C', numbers, 8)
+    put_line(out, at, b'C', &numbers)
 }
 
 // The line of a step's entry: G, C, R or I.
@@ -157,39 +145,27 @@ pub fn put_entry(out: &mut [u8], at: usize, entry: Entry) -> usize
     ensures out_after { out.new ≡ out_after out.old at (entry_text entry) }
 {
     match entry {
-        Entry::Idle(clock) => put_line(out, at, b'I', [clock, 0, 0, 0, 0, 0, 0, 0], 1),
-        Entry::Grant(clock, owner) => put_line(
-            out,
-            at,
-            b'G',
-            [clock, owner as u32, 0, 0, 0, 0, 0, 0],
-            2,
-        ),
+        Entry::Idle(clock) => put_line(out, at, b'I', &[clock]),
+        Entry::Grant(clock, owner) => put_line(out, at, b'G', &[clock, owner as u32]),
         Entry::Cycle(cycle) => put_cycle(out, at, cycle),
-        Entry::Release(clock, level, _) => put_line(
-            out,
-            at,
-            b'R',
-            [clock, level as u32, 0, 0, 0, 0, 0, 0],
-            2,
-        ),
+        Entry::Release(clock, level, _) => put_line(out, at, b'R', &[clock, level as u32]),
     }
 }
 
-// The line of a post: P, clock, level, refusal or 0.
+// The line of a post: P, clock, level, refusal or 0. Any number may be handed in as the refusal's: the promise holds of each.
 pub fn put_post(out: &mut [u8], at: usize, clock: u32, level: u32, number: u32) -> usize
     ensures value { result ≡ place_after out.old at (post_text clock level number) }
     ensures out_after { out.new ≡ out_after out.old at (post_text clock level number) }
 {
-    put_line(out, at, b'P', [clock, level, number, 0, 0, 0, 0, 0], 3)
+    put_line(out, at, b'P', &[clock, level, number])
 }
 
-// The line of an event that ends at refusal 6.
+// The line of an event that ends at refusal 6: the number itself, as this crate knows no refusals.
 pub fn put_stop(out: &mut [u8], at: usize, clock: u32) -> usize
     ensures value { result ≡ place_after out.old at (stop_text clock) }
     ensures out_after { out.new ≡ out_after out.old at (stop_text clock) }
 {
-    put_line(out, at, b'X', [clock, 6, 0, 0, 0, 0, 0, 0], 2)
+    put_line(out, at, b'X', &[clock, 6])
 }
 
 // The last line: the clock and the bytes moved.
@@ -197,13 +173,13 @@ pub fn put_end(out: &mut [u8], at: usize, clock: u32, bytes: u32) -> usize
     ensures value { result ≡ place_after out.old at (end_text clock bytes) }
     ensures out_after { out.new ≡ out_after out.old at (end_text clock bytes) }
 {
-    put_line(out, at, b'E', [clock, bytes, 0, 0, 0, 0, 0, 0], 2)
+    put_line(out, at, b'E', &[clock, bytes])
 }
 
-// The only line of a bad sheet: the refusal and its place.
+// The only line of a bad sheet: the refusal's number, which may be any, and its place.
 pub fn put_fault(out: &mut [u8], at: usize, number: u32, place: u32) -> usize
     ensures value { result ≡ place_after out.old at (fault_text number place) }
     ensures out_after { out.new ≡ out_after out.old at (fault_text number place) }
 {
-    put_line(out, at, b'S', [number, place, 0, 0, 0, 0, 0, 0], 2)
+    put_line(out, at, b'S', &[number, place])
 }

@@ -8,63 +8,64 @@ ghost use Rattle.number.specs.Number.{groups, below, read_number, bytes_of, writ
 
 use refusal::Refusal;
 
-// What stands at a place: a value and the place past it, or why there is no number, and the place where it starts.
+// Why something can't be read, and the place where it stands.
 #[derive(Clone, Copy)]
-pub enum NumberRead {
-    Number(u32, usize),
-    Refused(Refusal, usize),
-}
-
-// The place past a number that was written, or that there was no room for it.
-#[derive(Clone, Copy)]
-pub enum NumberWritten {
-    Past(usize),
-    Refused(Refusal),
+pub struct Fault {
+    pub why: Refusal,
+    pub place: usize,
 }
 
 // The groups after the first of a number that starts at `start`; `first` is the value of its first group.
-fn more_groups(s: &[u8], start: usize, first: u32) -> NumberRead
+fn more_groups(s: &[u8], start: usize, first: u32) -> Result<(u32, usize), Fault>
     requires start_in_bounds { start < length s.now }
     requires first_bound { first < 128 }
     ensures { result ≡ below start first (groups start 3 (start + 1) (drop (start + 1) s.now)) }
 {
-    let mut at = start + 1;
+    let not_shortest = Fault {
+        why: Refusal::BadNumber,
+        place: start,
+    };
     // the value of the groups passed, and how many times the next one counts
     let mut low = first;
     let mut weight: u32 = 128;
-    while at < s.len() {
-        let byte = s[at] as u32;
+    for at in start + 1..s.len() {
+        let byte = u32::from(s[at]);
         // the fifth byte is the last, and has room for four bits
         if weight == 268435456 {
             if (15 < byte) | (byte == 0) {
-                return NumberRead::Refused(Refusal::BadNumber, start);
+                return Err(not_shortest);
             }
-            return NumberRead::Number(low + weight * byte, at + 1);
+            return Ok((low + weight * byte, at + 1));
         }
         if byte < 128 {
             if byte == 0 {
-                return NumberRead::Refused(Refusal::BadNumber, start);
+                return Err(not_shortest);
             }
-            return NumberRead::Number(low + weight * byte, at + 1);
+            return Ok((low + weight * byte, at + 1));
         }
         low += weight * (byte - 128);
         weight *= 128;
-        at += 1;
     }
-    NumberRead::Refused(Refusal::SheetEnds, start)
+    Err(Fault {
+        why: Refusal::SheetEnds,
+        place: start,
+    })
 }
 
-// The number at a place.
-pub fn read_number(s: &[u8], at: usize) -> NumberRead
+// The value of the number at a place, and the place past it; or why there is none, and the place where it starts.
+pub fn read_number(s: &[u8], at: usize) -> Result<(u32, usize), Fault>
     ensures { result ≡ read_number s.now at }
 {
     if s.len() <= at {
-        return NumberRead::Refused(Refusal::SheetEnds, at);
+        return Err(Fault {
+            why: Refusal::SheetEnds,
+            place: at,
+        });
     }
-    let byte = s[at] as u32;
+    let byte = u32::from(s[at]);
     // most numbers have one byte
     if byte < 128 {
-        return NumberRead::Number(byte, at + 1);
+        return Ok((byte, at + 1));
     }
     more_groups(s, at, byte - 128)
 }
@@ -113,8 +114,8 @@ fn has_room(room: usize, v: u32) -> bool
     number_size(v) <= room
 }
 
-// Writes a number from a place on, whole or not at all.
-pub fn write_number(out: &mut [u8], at: usize, v: u32) -> NumberWritten
+// Writes a number from a place on, whole or not at all, and gives the place past it.
+pub fn write_number(out: &mut [u8], at: usize, v: u32) -> Result<usize, Refusal>
     ensures value { result ≡ write_number out.old at v }
     ensures out_after { out.new ≡ write_number_after out.old at v }
 {
@@ -122,16 +123,15 @@ pub fn write_number(out: &mut [u8], at: usize, v: u32) -> NumberWritten
     if v < 128 {
         if at < out.len() {
             out[at] = v as u8;
-            return NumberWritten::Past(at + 1);
+            return Ok(at + 1);
         }
-        return NumberWritten::Refused(Refusal::NoRoom);
+        return Err(Refusal::NoRoom);
     }
     if out.len() < at {
-        return NumberWritten::Refused(Refusal::NoRoom);
+        return Err(Refusal::NoRoom);
     }
     if has_room(out.len() - at, v) {
-        let past = put_number(out, at, v);
-        return NumberWritten::Past(past);
+        return Ok(put_number(out, at, v));
     }
-    NumberWritten::Refused(Refusal::NoRoom)
+    Err(Refusal::NoRoom)
 }

@@ -10,27 +10,24 @@ use lib.ListN.{length, get_or, drop, set, replicate, drop_of_length-le, length-a
 use lib.Seq.{sets, sets-eq, drop-cons, get_or-append-add, get_or-drop}
 use lib.Dec.{leb, ltb}
 use borrow.Author.Tests.{ltb-true, ltb-false, leb-true}
+use Rattle.std.specs.Prelude.{Ok, Err}
 use Rattle.basics.specs.Limits.{numbers_most}
 use Rattle.basics.proofs.Arrays.{replicate_at}
 use Rattle.basics.proofs.Tests.{by_test, and_left, and_right}
 use Rattle.refusal.specs.declared.Refusal.{Refusal}
 use Rattle.refusal.specs.declared.Refusal.TheVariants.{SheetEnds}
-use Rattle.number.specs.declared.NumberRead.{NumberRead}
-use Rattle.number.specs.declared.NumberRead.TheVariants.{Number, Refused as NoNumber}
-use Rattle.number.specs.declared.NumberWritten.TheVariants.{Past, Refused as NotWritten}
-use Rattle.number.specs.Number.{bytes_of}
-use Rattle.number.proofs.Laws.{no_number, bytes_most}
-use Rattle.numbers.specs.declared.Part.{Part}
-use Rattle.numbers.specs.declared.Part.TheVariants.{Fault}
+use Rattle.number.specs.declared.Fault.{Fault}
+use Rattle.number.specs.Number.{NumberRead, NumberWritten, Number, fault, bytes_of}
+use Rattle.number.proofs.Laws.{no_number, number_is, bytes_most}
 use Rattle.numbers.specs.declared.Taken.{Taken}
-use Rattle.numbers.specs.Numbers.{Source, list_at, in_range, number_between, passed, followed, numbers, padded, taken, all_bytes}
+use Rattle.numbers.specs.Numbers.{Part, Reading, list_at, in_range, number_between, passed, followed, numbers, padded, taken, all_bytes}
 
-module _ (src : Source) (at : ℕ) {left k : ℕ} (more : left ≡ suc k) where
+module _ (src : Reading) (at : ℕ) {left k : ℕ} (more : left ≡ suc k) where
   -- numbers in a row
   pub passed_on : {v next : ℕ} → src at ≡ Number v next → passed src left at ≡ passed src k next
   passed_on r = rw (more, r)
 
-  pub passed_fault : {why : Refusal} {p : ℕ} → src at ≡ NoNumber why p → passed src left at ≡ Fault why p
+  pub passed_fault : {f : Fault} → src at ≡ Err f → passed src left at ≡ Err f
   passed_fault r = rw (more, r)
 
   pub numbers_on : {v next : ℕ} → src at ≡ Number v next → numbers src left at ≡ v ∷ numbers src k next
@@ -42,33 +39,33 @@ module _ (src : Source) (at : ℕ) {left k : ℕ} (more : left ≡ suc k) where
   stored_on out i r = rw (add-one, numbers_on r)
 
 -- a number in range stands in the number_at as well, and is in range
-pub record InRange (src : Source) (low high at v next : ℕ) : Type 0 where
+pub record InRange (src : Reading) (low high at v next : ℕ) : Type 0 where
   pub stands : src at ≡ Number v next
   pub least : low ≤ v
   pub most : v ≤ high
 
-ranged : (src : Source) (low high : ℕ) (why : Refusal) (at : ℕ) (got : NumberRead) {v next : ℕ} → src at ≡ got
+ranged : (src : Reading) (low high : ℕ) (why : Refusal) (at : ℕ) (got : NumberRead) {v next : ℕ} → src at ≡ got
     → in_range low high why at got ≡ Number v next
     → InRange src low high at v next
-ranged src low high why at (NoNumber other p) s e = no_number e
+ranged src low high why at (Err f) s e = no_number e
 ranged src low high why at (Number w to) {v} {next} s e =
     by_test (leb low w && leb w high)
     (λ t.
     let q : Number w to ≡ Number v next = rw t at e in
-    let same : w ≡ v = cc in
+    let same = (number_is q).0 in
     record {
       stands = s ∙ q;
       least = omega (arith, leb-true low w (and_left _ _ t));
       most = omega (arith, leb-true w high (and_right (leb low w) _ t));
     })
-    (λ f. let q : NoNumber why at ≡ Number v next = rw f at e in no_number q)
+    (λ f. let q : Err (fault why at) ≡ Number v next = rw f at e in no_number q)
 
-pub in_range_lem : (src : Source) (low high : ℕ) (why : Refusal) (at : ℕ) {v next : ℕ} → number_between src low high why at ≡ Number v next
+pub in_range_lem : (src : Reading) (low high : ℕ) (why : Refusal) (at : ℕ) {v next : ℕ} → number_between src low high why at ≡ Number v next
     → InRange src low high at v next
 unfolding number_between
 in_range_lem src low high why at e = ranged src low high why at (src at) refl e
 
-pub at_most : (src : Source) (low high : ℕ) (why : Refusal) (at : ℕ) {got : NumberRead} {v next : ℕ}
+pub at_most : (src : Reading) (low high : ℕ) (why : Refusal) (at : ℕ) {got : NumberRead} {v next : ℕ}
     → got ≡ number_between src low high why at → got ≡ Number v next → v ≤ high
 at_most src low high why at b e = (in_range_lem src low high why at (sym b ∙ e)).most
 
@@ -84,22 +81,21 @@ stands list at {v} {next} e =
     by_test (ltb at (length list))
     (λ t.
     let q : Number (get_or list at 0) (at + 1) ≡ Number v next = rw t at e in
-    let same : v ≡ get_or list at 0 = cc in
-    let past_it : next ≡ at + 1 = cc in
-    record { value = same; next_is = past_it; inside = ltb-true at (length list) t })
-    (λ f. let q : NoNumber SheetEnds at ≡ Number v next = rw f at e in no_number q)
+    let i = number_is q in
+    record { value = sym i.0; next_is = sym i.1; inside = ltb-true at (length list) t })
+    (λ f. let q : Err (fault SheetEnds at) ≡ Number v next = rw f at e in no_number q)
 
 -- where no number stands, none follow
-pub numbers_end : (src : Source) (n at : ℕ) {why : Refusal} {p : ℕ} → src at ≡ NoNumber why p → numbers src n at ≡ []
+pub numbers_end : (src : Reading) (n at : ℕ) {f : Fault} → src at ≡ Err f → numbers src n at ≡ []
 numbers_end src zero at r = refl
 numbers_end src (suc n) at r = rw r
 
 -- n numbers in a row are at most n
 followed_most : (n : ℕ) (got : NumberRead) (f : ℕ → List ℕ) → ((next : ℕ) → length (f next) ≤ n) → length (followed got f) ≤ suc n
 followed_most n (Number v next) f h = omega (arith, h next)
-followed_most n (NoNumber why p) f h = omega arith
+followed_most n (Err x) f h = omega arith
 
-pub numbers_most_lem : (src : Source) (n at : ℕ) → length (numbers src n at) ≤ n
+pub numbers_most_lem : (src : Reading) (n at : ℕ) → length (numbers src n at) ≤ n
 numbers_most_lem src zero at = omega arith
 numbers_most_lem src (suc n) at = followed_most n (src at) (numbers src n) (numbers_most_lem src n)
 
@@ -122,7 +118,7 @@ padded_at row j h =
     ∙ sym (get_or-eq_default row 0 g)))
 
 -- what the judge reads, by its parts
-module _ (src : Source) (at : ℕ) where
+module _ (src : Reading) (at : ℕ) where
   pub taken_is : (n : ℕ) {values : List ℕ} {part : Part} → values ≡ padded (numbers src n at) → part ≡ passed src n at
       → ◌≡◌ {A = Taken} (record { values = values; part = part }) (taken src n at)
   taken_is n p q i = record { values = p i; part = q i }
@@ -155,8 +151,8 @@ pub written_on : (list : List ℕ) (i at : ℕ) (out : List ℕ) → i < length 
 written_on list i at out h = rw (bytes_on list i h) (sym (sets_append (bytes_of (get_or list i 0)) (all_bytes (drop (i + 1) list)) out at))
 
 -- a write with room for it says where it ends
-pub past_is : {a b : ℕ} → Past a ≡ Past b → a ≡ b
+pub past_is : {a b : ℕ} → ◌≡◌ {A = NumberWritten} (Ok a) (Ok b) → a ≡ b
 past_is q = cc
 
-pub no_room : {A : Type 0} {why : Refusal} {a : ℕ} → NotWritten why ≡ Past a → A
-no_room q = let z : ◌≡◌ {A = ℕ} 0 1 = cc in absurd (omega arith)
+pub no_room : {A : Type 0} {why : Refusal} {a : ℕ} → ◌≡◌ {A = NumberWritten} (Err why) (Ok a) → A
+no_room q = cc

@@ -5,21 +5,19 @@ use mathlib.Core.Path.{◌≡◌, refl, ap}
 use mathlib.Core.Bool.{Bool, true, false, cond, ◌&&◌}
 use mathlib.Core.List.{List, ◌∷◌}
 use lib.Dec.{leb}
+use Rattle.std.specs.Prelude.{Ok, Err}
 use Rattle.refusal.specs.declared.Refusal.{Refusal}
-use Rattle.number.specs.declared.NumberRead.{NumberRead}
-use Rattle.number.specs.declared.NumberRead.TheVariants.{Number, Refused as NoNumber}
-use Rattle.numbers.specs.declared.Part.{Part}
-use Rattle.numbers.specs.declared.Part.TheVariants.{Good, Fault}
-use Rattle.numbers.specs.Numbers.{Source, with_number, and_then, in_range, number_between, passed, followed, numbers}
+use Rattle.number.specs.Number.{NumberRead, Number, fault}
+use Rattle.numbers.specs.Numbers.{Part, Reading, with_number, ◌>>=◌, in_range, number_between, passed, followed, numbers}
 
 -- a number, and a judgement, with its place moved
 abbrev pub moved : (ℕ → ℕ) → NumberRead → NumberRead
 moved to (Number v next) = Number v (to next)
-moved to (NoNumber why place) = NoNumber why (to place)
+moved to (Err f) = Err (fault f.why (to f.place))
 
 abbrev pub moved_to : (ℕ → ℕ) → Part → Part
-moved_to to (Good at) = Good (to at)
-moved_to to (Fault why place) = Fault why (to place)
+moved_to to (Ok at) = Ok (to at)
+moved_to to (Err f) = Err (fault f.why (to f.place))
 
 module _ (to : ℕ → ℕ) where
   pub cond_moved : (b : Bool) (x y : Part) {x' y' : Part} → x' ≡ moved_to to x → y' ≡ moved_to to y → cond b x' y' ≡ moved_to to (cond b x y)
@@ -29,28 +27,28 @@ module _ (to : ℕ → ℕ) where
   pub with_moved : (got : NumberRead) (f g : ℕ → ℕ → Part) → ((v next : ℕ) → f v (to next) ≡ moved_to to (g v next))
       → with_number (moved to got) f ≡ moved_to to (with_number got g)
   with_moved (Number v next) f g h = h v next
-  with_moved (NoNumber why p) f g h = refl
+  with_moved (Err x) f g h = refl
 
   pub then_moved : (j : Part) (f g : ℕ → Part) → ((at : ℕ) → f (to at) ≡ moved_to to (g at))
-      → and_then (moved_to to j) f ≡ moved_to to (and_then j g)
-  then_moved (Good at) f g h = h at
-  then_moved (Fault why p) f g h = refl
+      → (moved_to to j >>= f) ≡ moved_to to (j >>= g)
+  then_moved (Ok at) f g h = h at
+  then_moved (Err x) f g h = refl
 
   pub followed_moved : (got : NumberRead) (f g : ℕ → List ℕ) → ((next : ℕ) → f (to next) ≡ g next) → followed (moved to got) f ≡ followed got g
   followed_moved (Number v next) f g h = ap (λ (x : List ℕ). v ∷ x) (h next)
-  followed_moved (NoNumber why p) f g h = refl
+  followed_moved (Err x) f g h = refl
 
   pub range_moved : (low high : ℕ) (why : Refusal) (at : ℕ) (got : NumberRead)
       → in_range low high why (to at) (moved to got) ≡ moved to (in_range low high why at got)
-  range_moved low high why at (NoNumber other p) = refl
+  range_moved low high why at (Err f) = refl
   range_moved low high why at (Number v next) = pick (leb low v && leb v high)
     where
-      pick : (b : Bool) → cond b (Number v (to next)) (NoNumber why (to at)) ≡ moved to (cond b (Number v next) (NoNumber why at))
+      pick : (b : Bool) → cond b (Number v (to next)) (Err (fault why (to at))) ≡ moved to (cond b (Number v next) (Err (fault why at)))
       pick true = refl
       pick false = refl
 
 -- the number_at `a` has at the place `to i` what the number_at `b` has at i
-module _ (a b : Source) (to : ℕ → ℕ) (same : (i : ℕ) → a (to i) ≡ moved to (b i)) where
+module _ (a b : Reading) (to : ℕ → ℕ) (same : (i : ℕ) → a (to i) ≡ moved to (b i)) where
   pub between_moved : (low high : ℕ) (why : Refusal) (at : ℕ) → number_between a low high why (to at) ≡ moved to (number_between b low high why at)
   unfolding number_between
   between_moved low high why at = rw (same at) (range_moved to low high why at (b at))

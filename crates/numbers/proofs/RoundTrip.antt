@@ -8,15 +8,13 @@ use borrow.Author.Tests.{lt-ltb, le-ltb, ltb-true, ltb-false}
 use lib.ListN.{length, get_or, drop, take, length-append, take-append-drop, drop_of_length-le}
 use lib.Seq.{drop-cons, take-suc, take_all}
 use lib.Dec.{ltb}
+use Rattle.std.specs.Prelude.{Ok, Err}
 use Rattle.basics.proofs.Tests.{by_test}
-use Rattle.refusal.specs.declared.Refusal.{Refusal}
-use Rattle.number.specs.Number.{bytes_of, read_number, Bytes}
-use Rattle.number.specs.declared.NumberRead.{NumberRead}
-use Rattle.number.specs.declared.NumberRead.TheVariants.{Number, Refused as NoNumber}
+use Rattle.number.specs.declared.Fault.{Fault}
+use Rattle.number.specs.Number.{NumberRead, Number, bytes_of, read_number, Bytes}
 use Rattle.number.proofs.RoundTrip.{read_appended, written_back}
 use Rattle.number.proofs.Laws.{bytes_some, read_end, read_within}
-use Rattle.numbers.specs.declared.Part.TheVariants.{Good}
-use Rattle.numbers.specs.Numbers.{Source, list_at, followed, numbers, numbers_of, all_bytes}
+use Rattle.numbers.specs.Numbers.{Reading, list_at, followed, numbers, numbers_of, all_bytes}
 use Rattle.numbers.proofs.Laws.{numbers_end, numbers_most_lem, stands}
 use Rattle.numbers.proofs.Laws.{bytes_on, size_on}
 use Rattle.numbers.proofs.Moved.{moved, numbers_moved}
@@ -97,7 +95,7 @@ list_back list fit =
     ∙ numbers_listed list n 0 (omega (arith, bytes_many list))
 
 -- a run that ends where no number stands has all the numbers there are
-run_all : (src : Source) (m : ℕ) {n at end : ℕ} {why : Refusal} {p : ℕ} → Run src n at end → src end ≡ NoNumber why p → n ≤ m
+run_all : (src : Reading) (m : ℕ) {n at end : ℕ} {f : Fault} → Run src n at end → src end ≡ Err f → n ≤ m
     → numbers src m at ≡ numbers src n at
 run_all src m none r h = numbers_end src m _ r
 run_all src zero (more e s) r h = absurd (omega arith)
@@ -117,7 +115,7 @@ module _ (s : List ℕ) (bytes : Bytes s) where
       ∙ ap (λ (x : List ℕ). bytes_of v ++ x) (run_bytes r)
       ∙ sym (append_assoc (bytes_of v) (all_bytes (numbers (read_number s) n next)) (drop end s)))
 
-  pub told : {m end : ℕ} → Tells (read_number s) m 0 (Good end) → length s ≤ end → (length (numbers_of s) ≤ m) × (all_bytes (numbers_of s) ≡ s)
+  pub told : {m end : ℕ} → Tells (read_number s) m 0 (Ok end) → length s ≤ end → (length (numbers_of s) ≤ m) × (all_bytes (numbers_of s) ≡ s)
   unfolding numbers_of
   told (good {n = n} {end = end} r l) w =
       let t = run_within r (omega arith) in
@@ -133,7 +131,7 @@ list_run list (more {at = at} e r) h =
     let t = list_run list r (omega arith) in
     (omega arith, t.1)
 
-pub listed : (list : List ℕ) {m end : ℕ} → Tells (list_at list) m 0 (Good end) → length list ≤ end → (end ≡ length list) × (length list ≤ m)
+pub listed : (list : List ℕ) {m end : ℕ} → Tells (list_at list) m 0 (Ok end) → length list ≤ end → (end ≡ length list) × (length list ≤ m)
 listed list (good r l) w = let t = list_run list r (omega arith) in (omega arith, omega arith)
 
 -- the numbers of bytes fit
@@ -141,7 +139,7 @@ followed_fit : (got : NumberRead) (f : ℕ → List ℕ) → ((v next : ℕ) →
     → ((next : ℕ) → Numbers (f next)) → Numbers (followed got f)
 followed_fit (Number v next) f h k zero = h v next refl
 followed_fit (Number v next) f h k (suc i) = k next i
-followed_fit (NoNumber why p) f h k i = omega arith
+followed_fit (Err x) f h k i = omega arith
 
 pub numbers_fit : (bytes : List ℕ) → Bytes bytes → (n at : ℕ) → Numbers (numbers (read_number bytes) n at)
 numbers_fit bytes y zero at = λ i. omega arith
@@ -153,5 +151,5 @@ list_ends : (list : List ℕ) {n at end : ℕ} → Run (list_at list) n at end �
 list_ends list none h = h
 list_ends list (more {at = at} e r) h = let s = stands list at e in list_ends list r (omega arith)
 
-pub part_ends : (list : List ℕ) {m at end : ℕ} → Tells (list_at list) m at (Good end) → at ≤ length list + 1 → end ≤ length list + 1
+pub part_ends : (list : List ℕ) {m at end : ℕ} → Tells (list_at list) m at (Ok end) → at ≤ length list + 1 → end ≤ length list + 1
 part_ends list (good r l) h = list_ends list r h

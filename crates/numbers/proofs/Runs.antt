@@ -6,29 +6,27 @@ use native.Mathlib.Nat.{suc-add, zero-add}
 use native.Mathlib.Omega.{arith}
 use borrow.Author.Tests.{leb-true}
 use lib.Dec.{leb}
+use Rattle.std.specs.Prelude.{Ok, Err}
 use Rattle.basics.proofs.Tests.{by_test, and_right}
 use Rattle.refusal.specs.Refusal.{refusal_number}
 use Rattle.refusal.specs.declared.Refusal.{Refusal}
-use Rattle.number.specs.declared.NumberRead.{NumberRead}
-use Rattle.number.specs.declared.NumberRead.TheVariants.{Number, Refused as NoNumber}
-use Rattle.numbers.specs.declared.Part.{Part}
-use Rattle.numbers.specs.declared.Part.TheVariants.{Good, Fault}
-use Rattle.numbers.specs.Numbers.{Source, with_number, and_then, in_range, number_between, passed}
+use Rattle.number.specs.declared.Fault.{Fault}
+use Rattle.number.specs.Number.{NumberRead, Number}
+use Rattle.numbers.specs.Numbers.{Part, Reading, with_number, ◌>>=◌, in_range, number_between, passed}
 
 -- n numbers stand one after the other, from a place to another
-pub data Run (src : Source) : ℕ → ℕ → ℕ → Type 0 where
+pub data Run (src : Reading) : ℕ → ℕ → ℕ → Type 0 where
   none : {at : ℕ} → Run src 0 at at
   more : {n at v next end : ℕ} → src at ≡ Number v next → Run src n next end → Run src (suc n) at end
 
 -- what a judgement says of the numbers from a place on: if it is good, they run to its end and are at most `most`; if
 -- it is 11, the number_at said so
-pub data Tells (src : Source) : ℕ → ℕ → Part → Type 0 where
-  good : {most n at end : ℕ} → Run src n at end → n ≤ most → Tells src most at (Good end)
-  fault : {most at : ℕ} {why : Refusal} {place : ℕ} → (refusal_number why ≡ 11 → (q : ℕ) × (src q ≡ NoNumber why place))
-      → Tells src most at (Fault why place)
+pub data Tells (src : Reading) : ℕ → ℕ → Part → Type 0 where
+  good : {most n at end : ℕ} → Run src n at end → n ≤ most → Tells src most at (Ok end)
+  fault : {most at : ℕ} {f : Fault} → (refusal_number f.why ≡ 11 → (q : ℕ) × (src q ≡ Err f)) → Tells src most at (Err f)
 
-module _ {src : Source} where
-  pub tells_none : {m at : ℕ} → Tells src m at (Good at)
+module _ {src : Reading} where
+  pub tells_none : {m at : ℕ} → Tells src m at (Ok at)
   tells_none {m} = good {most = m} none (omega arith)
 
   pub tells_less : {m k at : ℕ} {j : Part} → m ≤ k → Tells src m at j → Tells src k at j
@@ -44,7 +42,7 @@ module _ {src : Source} where
   tells_after {m = m} (more {n = n} r s) t = rw (suc-add n m) (tells_on r (tells_after s t))
 
   pub tells_then : {m k at : ℕ} {j : Part} {f : ℕ → Part} → Tells src m at j → ((mid : ℕ) → Tells src k mid (f mid))
-      → Tells src (m + k) at (and_then j f)
+      → Tells src (m + k) at (j >>= f)
   tells_then (good {end = mid} r l) h = tells_less (omega arith) (tells_after r (h mid))
   tells_then (fault e) h = fault e
 
@@ -55,7 +53,7 @@ module _ {src : Source} where
   pub ranged_tells : (low high : ℕ) (why : Refusal) {m at : ℕ} {f : ℕ → ℕ → Part} → (refusal_number why ≡ 11 → ⊥)
       → ((v next : ℕ) → v ≤ high → Tells src m next (f v next))
       → (got : NumberRead) → src at ≡ got → Tells src (suc m) at (with_number (in_range low high why at got) f)
-  ranged_tells low high why {at = at} other h (NoNumber not p) r = fault (λ e. (at, r))
+  ranged_tells low high why {at = at} other h (Err f) r = fault (λ e. (at, r))
   ranged_tells low high why other h (Number v next) r =
       by_test (leb low v && leb v high)
       (λ t. rw t (tells_on r (h v next (leb-true v high (and_right (leb low v) _ t)))))
@@ -63,10 +61,10 @@ module _ {src : Source} where
 
   pub with_tells : {m at : ℕ} {f : ℕ → ℕ → Part} → ((v next : ℕ) → Tells src m next (f v next))
       → (got : NumberRead) → src at ≡ got → Tells src (suc m) at (with_number got f)
-  with_tells {at = at} h (NoNumber why p) r = fault (λ e. (at, r))
+  with_tells {at = at} h (Err x) r = fault (λ e. (at, r))
   with_tells h (Number v next) r = tells_on r (h v next)
 
-module _ (src : Source) where
+module _ (src : Reading) where
   -- a part that begins with a number in range
   pub tells_ranged : (low high : ℕ) (why : Refusal) (at : ℕ) {m : ℕ} {f : ℕ → ℕ → Part} → (refusal_number why ≡ 11 → ⊥)
       → ((v next : ℕ) → v ≤ high → Tells src m next (f v next))

@@ -7,22 +7,21 @@ use native.Mathlib.Nat.{add-zero, zero-add, add_assoc}
 use native.Mathlib.Omega.{arith}
 use borrow.Author.Tests.{le-leb}
 use lib.ListN.{length, drop, length-append}
+use Rattle.std.specs.Prelude.{Ok}
 use Rattle.refusal.specs.declared.Refusal.{Refusal}
-use Rattle.number.specs.declared.NumberRead.TheVariants.{Number}
-use Rattle.number.specs.Number.{bytes_of, read_number, Bytes}
+use Rattle.number.specs.Number.{Number, bytes_of, read_number, Bytes}
 use Rattle.number.proofs.RoundTrip.{read_appended, written_back}
-use Rattle.number.proofs.Laws.{read_within}
-use Rattle.numbers.specs.declared.Part.TheVariants.{Good}
-use Rattle.numbers.specs.Numbers.{Source, number_between, passed, numbers, all_bytes}
+use Rattle.number.proofs.Laws.{number_is, read_within}
+use Rattle.numbers.specs.Numbers.{Reading, number_between, passed, numbers, all_bytes}
 use Rattle.numbers.proofs.Parts.{with_good}
 use Rattle.numbers.proofs.RoundTrip.{Numbers}
 
 -- the list's numbers stand one after the other, from a place to another
-pub data Spells (src : Source) : ℕ → List ℕ → ℕ → Type 0 where
+pub data Spells (src : Reading) : ℕ → List ℕ → ℕ → Type 0 where
   done : {at : ℕ} → Spells src at [] at
   then : {at v next end : ℕ} {list : List ℕ} → src at ≡ Number v next → Spells src next list end → Spells src at (v ∷ list) end
 
-module _ {src : Source} where
+module _ {src : Reading} where
   pub spells_one : {at v next : ℕ} → src at ≡ Number v next → Spells src at (v ∷ []) next
   spells_one r = then r done
 
@@ -48,23 +47,23 @@ module _ {src : Source} where
   spells_split [] {at = at} s = (at, done, s)
   spells_split (x ∷ xs) s = let f = spells_first s in let t = spells_split xs f.2 in (t.0, then f.1 t.1, t.2)
 
-module _ (src : Source) where
+module _ (src : Reading) where
   -- n numbers that were read, as many as were asked for, stand there
-  pub passed_spells : (n at : ℕ) {end : ℕ} → passed src n at ≡ Good end → Spells src at (numbers src n at) end
+  pub passed_spells : (n at : ℕ) {end : ℕ} → passed src n at ≡ Ok end → Spells src at (numbers src n at) end
   passed_spells zero at {end} e = let same : at ≡ end = cc in rw (← same) done
   passed_spells (suc n) at e =
       let w = with_good (src at) (λ v next. passed src n next) e in
       rw w.2 (then w.2 (passed_spells n w.1 w.3))
 
-  pub passed_many : (n at : ℕ) {end : ℕ} → passed src n at ≡ Good end → length (numbers src n at) ≡ n
+  pub passed_many : (n at : ℕ) {end : ℕ} → passed src n at ≡ Ok end → length (numbers src n at) ≡ n
   passed_many zero at e = refl
   passed_many (suc n) at e =
       let w = with_good (src at) (λ v next. passed src n next) e in
       rw w.2 (ap suc (passed_many n w.1 w.3))
 
-module _ {src : Source} where
+module _ {src : Reading} where
   -- numbers that stand there are read
-  pub spelt_passed : {at end : ℕ} {list : List ℕ} → Spells src at list end → passed src (length list) at ≡ Good end
+  pub spelt_passed : {at end : ℕ} {list : List ℕ} → Spells src at list end → passed src (length list) at ≡ Ok end
   spelt_passed done = refl
   spelt_passed (then r s) = rw r (spelt_passed s)
 
@@ -73,7 +72,7 @@ module _ {src : Source} where
   spelt_numbers (then {v = v} r s) = rw r (ap (λ (x : List ℕ). v ∷ x) (spelt_numbers s))
 
 -- a number that stands there and is in range; `in_range_lem` is the way back
-pub ranged_by : (src : Source) (low high : ℕ) (why : Refusal) (at : ℕ) {v next : ℕ} → src at ≡ Number v next → low ≤ v → v ≤ high
+pub ranged_by : (src : Reading) (low high : ℕ) (why : Refusal) (at : ℕ) {v next : ℕ} → src at ≡ Number v next → low ≤ v → v ≤ high
     → number_between src low high why at ≡ Number v next
 unfolding number_between
 ranged_by src low high why at {v} r l m = rw (r, le-leb low v l, le-leb v high m)
@@ -99,9 +98,8 @@ module _ (s : List ℕ) where
       → v ∷ xs ≡ ys
   one_here xs q l same (done {at = at}) = absurd (omega (arith, read_within s at q))
   one_here {v = v} {next = next} {end = end} xs q l same (then {v = w} {next = to} {list = ys} r t) =
-      let first : v ≡ w = cc in
-      let after : to ≡ next = cc in
-      ap₂ ◌∷◌ first (same ys (rw after at t))
+      let i = number_is (sym q ∙ r) in
+      ap₂ ◌∷◌ i.0 (same ys (rw (← i.1) at t))
 
   -- no two lists stand from one place to another
   pub spells_same : {at end : ℕ} {xs ys : List ℕ} → Spells (read_number s) at xs end → Spells (read_number s) at ys end → xs ≡ ys

@@ -7,9 +7,9 @@ use native.Mathlib.Omega.{arith}
 use borrow.Author.Tests.{le-leb, eqb-true, eqb-false, ne_eqb, not-false}
 use lib.Dec.{eqb}
 use lib.ListN.{get_or}
-use Rattle.refusal.specs.Refusal.{is_accepted}
+use Rattle.std.specs.Prelude.{Err}
+use Rattle.refusal.specs.Refusal.{accepted, is_accepted}
 use Rattle.refusal.specs.declared.Refusal.{Refusal}
-use Rattle.refusal.specs.declared.Verdict.TheVariants.{Accepted, Refused}
 use Rattle.basics.specs.Limits.{system_master}
 use Rattle.basics.proofs.Tests.{by_test, and_left, and_right}
 use Rattle.frame.specs.Frame.{is_framed}
@@ -38,12 +38,12 @@ pub record Allowed (setup : Setup) (ch : Channel) (p : Order) : Type 0 where
   pub sound : is_sound setup ch ≡ true
   pub present : is_present setup.levels p.level ≡ true
   pub none : has_request ch.left p.level ≡ false
-  pub fits : request_verdict setup p.level (request_in p) ≡ Accepted
+  pub fits : request_verdict setup p.level (request_in p) ≡ accepted
 
-not_refused : {r : Refusal} → Refused r ≡ Accepted → ⊥
+not_refused : {r : Refusal} → Err r ≡ accepted → ⊥
 not_refused e = let z : ◌≡◌ {A = ℕ} 0 1 = cc in omega arith
 
-pub allowed : (setup : Setup) (ch : Channel) (p : Order) → post_verdict setup ch p ≡ Accepted → Allowed setup ch p
+pub allowed : (setup : Setup) (ch : Channel) (p : Order) → post_verdict setup ch p ≡ accepted → Allowed setup ch p
 unfolding post_verdict
 allowed setup ch p e =
     let nine = by_test (is_framed setup && is_sound setup ch) (λ t. t) (λ f. absurd (not_refused (rw f at e))) in
@@ -143,7 +143,7 @@ module _ (setup : Setup) (ch : Channel) (p : Order) (shaped : Shaped ch) (ok : A
       }
 
 -- an accepted post keeps soundness
-pub post_sound : (setup : Setup) (ch : Channel) (p : Order) → Shaped ch → post_verdict setup ch p ≡ Accepted → Sound setup (posted ch p)
+pub post_sound : (setup : Setup) (ch : Channel) (p : Order) → Shaped ch → post_verdict setup ch p ≡ accepted → Sound setup (posted ch p)
 unfolding posted
 post_sound setup ch p k e =
     let ok = allowed setup ch p e in

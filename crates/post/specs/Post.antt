@@ -1,7 +1,7 @@
 -- Document 01, "The frame" and "Refusal numbers": the post.
-use Rattle.std.specs.Prelude.{cond, not, ◌&&◌, [], ◌∷◌}
+use Rattle.refusal.specs.declared.Refusal.{Refusal}
+use Rattle.std.specs.Prelude.{cond, not, ◌&&◌, [], ◌∷◌, Result}
 use Rattle.refusal.specs.Refusal.{is_accepted, refused_by}
-use Rattle.refusal.specs.declared.Verdict.{Verdict}
 use Rattle.frame.specs.Frame.{is_framed}
 use Rattle.frame.specs.Rows.{is_present}
 use Rattle.frame.specs.declared.Setup.{Setup}
@@ -20,14 +20,14 @@ request_in p =
     record { direction = p.direction; space = p.space; address = p.address; left = p.length; offset = p.offset }
 
 -- "1: .. the level isn't in the set-up"; "2: .. that level has an open request"; 3, 4 and 5 are the request's own
-abbrev pub order_verdict : Setup → Channel → Order → Verdict
+abbrev pub order_verdict : Setup → Channel → Order → Result Unit Refusal
 order_verdict setup ch p =
     refused_by
     ((1, not (is_present setup.levels p.level)) ∷ (2, has_request ch.left p.level) ∷ [])
     (request_verdict setup p.level (request_in p))
 
 -- "Order: 9 first, .. then the rest by number." "9: .. the set-up breaks the frame .. the channel is unsound"
-unfoldable pub post_verdict : Setup → Channel → Order → Verdict
+unfoldable pub post_verdict : Setup → Channel → Order → Result Unit Refusal
 post_verdict setup ch p = refused_by ((9, not (is_framed setup && is_sound setup ch)) ∷ []) (order_verdict setup ch p)
 
 -- an accepted post, then the line rule

@@ -3,10 +3,9 @@ use mathlib.Core.Path.{◌≡◌, refl, sym, ap, ◌∙◌}
 use mathlib.Core.List.{List, [], ◌∷◌}
 use native.Mathlib.Omega.{arith}
 use Prim.Native.Nat.{ℕ}
+use Rattle.std.specs.Prelude.{Err, Ok, Result}
 use Rattle.refusal.specs.declared.Refusal.{Refusal}
 use Rattle.refusal.specs.declared.Refusal.TheVariants as refusal
-use Rattle.refusal.specs.declared.Verdict.{Verdict}
-use Rattle.refusal.specs.declared.Verdict.TheVariants.{Accepted, Refused}
 use Rattle.refusal.specs.Refusal.{refusal_number, refusals, refusal_by, verdict_number}
 
 abbrev pub numbers_of : List Refusal → List ℕ
@@ -48,8 +47,8 @@ not_zero r e =
     let none : ◌≡◌ {A = ℕ} 17 0 = sym (ap refusal_number last) ∙ e in
     absurd (omega arith)
 
-pub one_verdict : (a b : Verdict) → verdict_number a ≡ verdict_number b → a ≡ b
-one_verdict Accepted Accepted e = refl
-one_verdict Accepted (Refused b) e = absurd (not_zero b (sym e))
-one_verdict (Refused a) Accepted e = absurd (not_zero a e)
-one_verdict (Refused a) (Refused b) e = ap Refused (one_number a b e)
+pub one_verdict : (a b : Result Unit Refusal) → verdict_number a ≡ verdict_number b → a ≡ b
+one_verdict (Ok _) (Ok _) e = refl
+one_verdict (Ok _) (Err b) e = absurd (not_zero b (sym e))
+one_verdict (Err a) (Ok _) e = absurd (not_zero a e)
+one_verdict (Err a) (Err b) e = ap Err (one_number a b e)

@@ -1,29 +1,26 @@
 -- The laws of the two calls, over what they promise: what was read is written again, what was written is read again, a
 -- refusal leaves the lent slice, and the writer never gives 11. Assumes nothing.
-use Prim.Native.Nat.{ℕ, ◌+◌, ◌≤◌}
+use Prim.Native.Nat.{ℕ, ◌≤◌}
 use mathlib.Core.Path.{◌≡◌, refl, sym, ap, ◌∙◌}
 use mathlib.Core.List.{List, ◌++◌}
 use native.Mathlib.Nat.{zero-add}
 use native.Mathlib.Omega.{arith}
 use borrow.Author.Tests.{le-leb, leb-true}
-use lib.ListN.{length, get_or, drop, take}
+use lib.ListN.{length, drop, take}
 use lib.Seq.{sets-eq, take-append_seam}
 use lib.Dec.{leb, ltb}
+use Rattle.std.specs.Prelude.{Ok, Err}
 use Rattle.basics.proofs.Tests.{by_test}
 use Rattle.refusal.specs.Refusal.{refusal_number}
-use Rattle.refusal.specs.declared.Refusal.{Refusal}
-use Rattle.refusal.specs.declared.Refusal.TheVariants.{NoRoom, SheetEnds}
-use Rattle.number.specs.Number.{read_number, Bytes}
-use Rattle.number.specs.declared.NumberRead.TheVariants.{Number, Refused as NoNumber}
-use Rattle.numbers.specs.declared.Part.{Part}
-use Rattle.numbers.specs.declared.Part.TheVariants.{Good, Fault}
-use Rattle.sheet.specs.declared.SheetAnswer.TheVariants.{Done, Refused}
-use Rattle.sheet.specs.Sheet.{sheet, answered, stored, read_sheet, read_sheet_after, write_sheet, write_sheet_after}
-use Rattle.numbers.specs.Numbers.{list_at, numbers_of, all_bytes}
+use Rattle.refusal.specs.declared.Refusal.TheVariants.{SheetEnds}
+use Rattle.number.specs.declared.Fault.{Fault}
+use Rattle.number.specs.Number.{fault, read_number, Bytes}
+use Rattle.sheet.specs.Sheet.{SheetAnswer, sheet, answered, stored, read_sheet, read_sheet_after, write_sheet, write_sheet_after}
+use Rattle.numbers.specs.Numbers.{Part, list_at, numbers_of, all_bytes}
 use Rattle.numbers.proofs.Moved.{moved_to}
 use Rattle.numbers.proofs.Parts.{no_good}
 use Rattle.numbers.proofs.Runs.{Tells}
-use Rattle.numbers.proofs.Runs.Tells.{fault}
+use Rattle.numbers.proofs.Runs.Tells.{fault as at_fault}
 use Rattle.numbers.proofs.RoundTrip.{Numbers, place, numbers_fit, list_back}
 use Rattle.number.proofs.Laws.{no_number}
 use Rattle.sheet.proofs.Runs.{sheet_tells}
@@ -32,27 +29,27 @@ use Rattle.sheet.proofs.RoundTrip.{judged_alike, bytes_back}
 -- a result was stored: the judgement is good, there is room, and the slice holds the result before what it held there
 pub record Success (judged : Part) (result out : List ℕ) (n : ℕ) : Type 0 where
   pub end : ℕ
-  pub is_good : judged ≡ Good end
+  pub is_good : judged ≡ Ok end
   pub size : n ≡ length result
   pub room : length result ≤ length out
-  pub left : stored (Done n) result out ≡ result ++ drop n out
+  pub left : stored (Ok n) result out ≡ result ++ drop n out
 
-done_one : (a b : ℕ) → Done a ≡ Done b → a ≡ b
+done_one : (a b : ℕ) → ◌≡◌ {A = SheetAnswer} (Ok a) (Ok b) → a ≡ b
 done_one a b e = cc
 
-not_done : {A : Type 0} {why : Refusal} {p n : ℕ} → Refused why p ≡ Done n → A
-not_done e = let z : ◌≡◌ {A = ℕ} 0 1 = cc in absurd (omega arith)
+not_done : {A : Type 0} {f : Fault} {n : ℕ} → ◌≡◌ {A = SheetAnswer} (Err f) (Ok n) → A
+not_done e = cc
 
-refused_one : {why other : Refusal} {p q : ℕ} → Refused why p ≡ Refused other q → why ≡ other
-refused_one e = cc
+refused_one : {f g : Fault} → ◌≡◌ {A = SheetAnswer} (Err f) (Err g) → f.why ≡ g.why
+refused_one {f} {g} e = let same : f ≡ g = cc in ap (λ (x : Fault). x.why) same
 
-success : (judged : Part) (result out : List ℕ) {n : ℕ} → answered judged (length result) (length out) ≡ Done n
+success : (judged : Part) (result out : List ℕ) {n : ℕ} → answered judged (length result) (length out) ≡ Ok n
     → Success judged result out n
-success (Fault why p) result out e = not_done e
-success (Good end) result out {n} e =
+success (Err f) result out e = not_done e
+success (Ok end) result out {n} e =
     by_test (leb (length result) (length out))
     (λ t.
-    let q : Done (length result) ≡ Done n = rw t at e in
+    let q = rw t at e in
     let size = sym (done_one (length result) n q) in
     let room = leb-true (length result) (length out) t in
     record {
@@ -64,46 +61,46 @@ success (Good end) result out {n} e =
           sets-eq result out 0 (omega arith)
           ∙ ap (λ (k : ℕ). result ++ drop k out) (zero-add (length result) ∙ sym size);
     })
-    (λ f. let q : Refused NoRoom 0 ≡ Done n = rw f at e in not_done q)
+    (λ f. not_done (rw f at e))
 
 -- a result that is good and has room is stored
-stores : (judged : Part) (result out : List ℕ) {end : ℕ} → judged ≡ Good end → length result ≤ length out
-    → answered judged (length result) (length out) ≡ Done (length result)
+stores : (judged : Part) (result out : List ℕ) {end : ℕ} → judged ≡ Ok end → length result ≤ length out
+    → answered judged (length result) (length out) ≡ Ok (length result)
 stores judged result out g h = rw (g, le-leb (length result) (length out) h)
 
 module _ (bytes out : List ℕ) where
   -- what the reader stored is the sheet's list of numbers
-  pub read_stored : {n : ℕ} → read_sheet bytes (length out) ≡ Done n → read_sheet_after bytes out ≡ numbers_of bytes ++ drop n out
+  pub read_stored : {n : ℕ} → read_sheet bytes (length out) ≡ Ok n → read_sheet_after bytes out ≡ numbers_of bytes ++ drop n out
   unfolding read_sheet read_sheet_after
   read_stored e = rw e (success (sheet (read_number bytes) (length bytes)) (numbers_of bytes) out e).left
 
   -- A refusal leaves the lent slice.
-  pub read_refused : {why : Refusal} {p : ℕ} → read_sheet bytes (length out) ≡ Refused why p → read_sheet_after bytes out ≡ out
+  pub read_refused : {f : Fault} → read_sheet bytes (length out) ≡ Err f → read_sheet_after bytes out ≡ out
   unfolding read_sheet_after
   read_refused e = rw e
 
 module _ (list out : List ℕ) where
   -- what the writer stored is the bytes of the list
-  pub write_stored : {n : ℕ} → write_sheet list (length out) ≡ Done n → write_sheet_after list out ≡ all_bytes list ++ drop n out
+  pub write_stored : {n : ℕ} → write_sheet list (length out) ≡ Ok n → write_sheet_after list out ≡ all_bytes list ++ drop n out
   unfolding write_sheet write_sheet_after
   write_stored e = rw e (success (sheet (list_at list) (length list)) (all_bytes list) out e).left
 
   -- A refusal leaves the lent slice.
-  pub write_refused : {why : Refusal} {p : ℕ} → write_sheet list (length out) ≡ Refused why p → write_sheet_after list out ≡ out
+  pub write_refused : {f : Fault} → write_sheet list (length out) ≡ Err f → write_sheet_after list out ≡ out
   unfolding write_sheet_after
   write_refused e = rw e
 
 -- a judgement that is good where it was moved to is good
-moved_good : (to : ℕ → ℕ) (j : Part) {end : ℕ} → moved_to to j ≡ Good end → (mid : ℕ) × (j ≡ Good mid)
-moved_good to (Good mid) e = (mid, refl)
-moved_good to (Fault why p) e = no_good e
+moved_good : (to : ℕ → ℕ) (j : Part) {end : ℕ} → moved_to to j ≡ Ok end → (mid : ℕ) × (j ≡ Ok mid)
+moved_good to (Ok mid) e = (mid, refl)
+moved_good to (Err f) e = no_good e
 
 front : (xs ys : List ℕ) (n : ℕ) → n ≡ length xs → take n (xs ++ ys) ≡ xs
 front xs ys n e = rw e (take-append_seam xs ys)
 
 -- The numbers of a valid sheet are a valid list.
-pub list_good : (bytes : List ℕ) {end : ℕ} → Bytes bytes → sheet (read_number bytes) (length bytes) ≡ Good end
-    → (mid : ℕ) × (sheet (list_at (numbers_of bytes)) (length (numbers_of bytes)) ≡ Good mid)
+pub list_good : (bytes : List ℕ) {end : ℕ} → Bytes bytes → sheet (read_number bytes) (length bytes) ≡ Ok end
+    → (mid : ℕ) × (sheet (list_at (numbers_of bytes)) (length (numbers_of bytes)) ≡ Ok mid)
 unfolding numbers_of
 list_good bytes y g =
     let list = numbers_of bytes in
@@ -115,11 +112,11 @@ list_good bytes y g =
 pub record ReadList (bytes out : List ℕ) (n : ℕ) : Type 0 where
   pub end : ℕ
   pub list_is : take n (read_sheet_after bytes out) ≡ numbers_of bytes
-  pub sheet_good : sheet (read_number bytes) (length bytes) ≡ Good end
+  pub sheet_good : sheet (read_number bytes) (length bytes) ≡ Ok end
   pub mid : ℕ
-  pub list_valid : sheet (list_at (numbers_of bytes)) (length (numbers_of bytes)) ≡ Good mid
+  pub list_valid : sheet (list_at (numbers_of bytes)) (length (numbers_of bytes)) ≡ Ok mid
 
-pub read_list : (bytes out : List ℕ) {n : ℕ} → Bytes bytes → read_sheet bytes (length out) ≡ Done n → ReadList bytes out n
+pub read_list : (bytes out : List ℕ) {n : ℕ} → Bytes bytes → read_sheet bytes (length out) ≡ Ok n → ReadList bytes out n
 unfolding read_sheet
 read_list bytes out {n} y e =
     let s = success (sheet (read_number bytes) (length bytes)) (numbers_of bytes) out e in
@@ -133,8 +130,8 @@ read_list bytes out {n} y e =
     }
 
 -- A valid sheet, read and written again, has the same bytes.
-pub read_written : (bytes out back : List ℕ) {n : ℕ} → Bytes bytes → read_sheet bytes (length out) ≡ Done n → length bytes ≤ length back
-    → (write_sheet (take n (read_sheet_after bytes out)) (length back) ≡ Done (length bytes))
+pub read_written : (bytes out back : List ℕ) {n : ℕ} → Bytes bytes → read_sheet bytes (length out) ≡ Ok n → length bytes ≤ length back
+    → (write_sheet (take n (read_sheet_after bytes out)) (length back) ≡ Ok (length bytes))
     × (take (length bytes) (write_sheet_after (take n (read_sheet_after bytes out)) back) ≡ bytes)
 unfolding write_sheet
 read_written bytes out back y e h =
@@ -145,13 +142,13 @@ read_written bytes out back y e h =
     let size = ap length (sym same) in
     let rest = drop (length (all_bytes list)) back in
     rw r.list_is (
-      done ∙ ap (λ (b : List ℕ). Done (length b)) same,
+      done ∙ ap (λ (b : List ℕ). Ok (length b)) same,
       ap (take (length bytes)) (write_stored list back done) ∙ front (all_bytes list) rest (length bytes) size ∙ same,
     )
 
 -- A valid list, written and read again, is the same list.
-pub written_read : (list out back : List ℕ) {n : ℕ} → Numbers list → write_sheet list (length out) ≡ Done n → length list ≤ length back
-    → (read_sheet (take n (write_sheet_after list out)) (length back) ≡ Done (length list))
+pub written_read : (list out back : List ℕ) {n : ℕ} → Numbers list → write_sheet list (length out) ≡ Ok n → length list ≤ length back
+    → (read_sheet (take n (write_sheet_after list out)) (length back) ≡ Ok (length list))
     × (take (length list) (read_sheet_after (take n (write_sheet_after list out)) back) ≡ list)
 unfolding read_sheet write_sheet
 written_read list out back {n} fit e h =
@@ -164,35 +161,37 @@ written_read list out back {n} fit e h =
     let size = ap length (sym same) in
     let rest = drop (length (numbers_of bytes)) back in
     rw taken (
-      done ∙ ap (λ (l : List ℕ). Done (length l)) same,
+      done ∙ ap (λ (l : List ℕ). Ok (length l)) same,
       ap (take (length list)) (read_stored bytes back done) ∙ front (numbers_of bytes) rest (length list) size ∙ same,
     )
 
 -- a list's own refusal of a number is 10
-list_refuses : (list : List ℕ) (at : ℕ) {why : Refusal} {p : ℕ} → list_at list at ≡ NoNumber why p → why ≡ SheetEnds
+list_refuses : (list : List ℕ) (at : ℕ) {f : Fault} → list_at list at ≡ Err f → f.why ≡ SheetEnds
 unfolding list_at
-list_refuses list at {why} {p} e =
+list_refuses list at {f} e =
     by_test (ltb at (length list))
-    (λ t. let q : Number (get_or list at 0) (at + 1) ≡ NoNumber why p = rw t at e in no_number (sym q))
-    (λ f. let q : NoNumber SheetEnds at ≡ NoNumber why p = rw f at e in cc)
+    (λ t. no_number (sym (rw t at e)))
+    (λ b.
+    let q = rw b at e in
+    let same : f ≡ fault SheetEnds at = cc in
+    ap (λ (x : Fault). x.why) same)
 
-never_eleven : (list : List ℕ) {m at : ℕ} {why : Refusal} {p : ℕ} → Tells (list_at list) m at (Fault why p) → refusal_number why ≡ 11 → ⊥
-never_eleven list {why = why} (fault t) e =
+never_eleven : (list : List ℕ) {m at : ℕ} {f : Fault} → Tells (list_at list) m at (Err f) → refusal_number f.why ≡ 11 → ⊥
+never_eleven list {f = f} (at_fault t) e =
     let s = t e in
     let q = ap refusal_number (list_refuses list s.0 s.1) in
     omega arith
 
 -- The writer never gives 11.
-pub write_eleven : (list : List ℕ) (room : ℕ) {why : Refusal} {p : ℕ} → write_sheet list room ≡ Refused why p → refusal_number why ≡ 11 → ⊥
+pub write_eleven : (list : List ℕ) (room : ℕ) {f : Fault} → write_sheet list room ≡ Err f → refusal_number f.why ≡ 11 → ⊥
 unfolding write_sheet
-write_eleven list room {why} {p} e q = go (sheet (list_at list) (length list)) (sheet_tells (list_at list) (length list)) e
+write_eleven list room {f} e q = go (sheet (list_at list) (length list)) (sheet_tells (list_at list) (length list)) e
   where
-    go : (j : Part) → Tells (list_at list) 7300 0 j → answered j (length (all_bytes list)) room ≡ Refused why p → ⊥
-    go (Fault other place) t r = never_eleven list t (ap refusal_number (refused_one r) ∙ q)
-    go (Good end) t r =
+    go : (j : Part) → Tells (list_at list) 7300 0 j → answered j (length (all_bytes list)) room ≡ Err f → ⊥
+    go (Err g) t r = never_eleven list t (ap refusal_number (refused_one r) ∙ q)
+    go (Ok end) t r =
         by_test (leb (length (all_bytes list)) room)
-        (λ b. let s : Done (length (all_bytes list)) ≡ Refused why p = rw b at r in not_done (sym s))
+        (λ b. not_done (sym (rw b at r)))
         (λ b.
-        let s : Refused NoRoom 0 ≡ Refused why p = rw b at r in
-        let n = ap refusal_number (refused_one s) in
+        let n = ap refusal_number (refused_one (rw b at r)) in
         omega arith)

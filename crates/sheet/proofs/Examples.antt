@@ -6,6 +6,7 @@ use mathlib.Core.Bool.{Bool, true, false, ◌&&◌}
 use mathlib.Core.List.{List, [], ◌∷◌, ◌++◌}
 use lib.Dec.{eqb}
 use lib.ListN.{length, replicate}
+use Rattle.std.specs.Prelude.{Ok, Err}
 use Rattle.basics.specs.Scan.{all_below}
 use Rattle.cycle.specs.Cycle.{is_width, is_port}
 use Rattle.frame.specs.Frame.{
@@ -24,10 +25,9 @@ use Rattle.frame.specs.Frame.{
 }
 use Rattle.refusal.specs.Refusal.{refusal_number}
 use Rattle.number.specs.Number.{read_number, bytes_of}
-use Rattle.sheet.specs.declared.SheetAnswer.{SheetAnswer}
-use Rattle.sheet.specs.declared.SheetAnswer.TheVariants.{Done, Refused}
 use Rattle.numbers.specs.Numbers.{list_at, number_between, numbers_of}
 use Rattle.sheet.specs.Sheet.{
+  SheetAnswer,
   counted_rows,
   head,
   step_count,
@@ -111,12 +111,12 @@ same (x ∷ xs) [] = false
 same (x ∷ xs) (y ∷ ys) = eqb x y && same xs ys
 
 says_done : ℕ → SheetAnswer → Bool
-says_done n (Done m) = eqb m n
-says_done n (Refused why place) = false
+says_done n (Ok m) = eqb m n
+says_done n (Err f) = false
 
 says_refused : ℕ → ℕ → SheetAnswer → Bool
-says_refused n p (Done m) = false
-says_refused n p (Refused why place) = eqb (refusal_number why) n && eqb place p
+says_refused n p (Ok m) = false
+says_refused n p (Err f) = eqb (refusal_number f.why) n && eqb f.place p
 
 -- the lent slice holds sevens: the result stands before the rest of them, or all of them stay
 holds : Example → Bool

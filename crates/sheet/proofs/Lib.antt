@@ -1,5 +1,4 @@
 pub mod Laws
-pub mod Answers
 pub mod Moved
 pub mod Runs
 pub mod Parts

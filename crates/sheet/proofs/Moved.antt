@@ -4,13 +4,11 @@ use Prim.Native.Nat.{ℕ, zero, suc, ◌+◌}
 use mathlib.Core.Path.{◌≡◌, refl, sym, ap, ◌∙◌}
 use mathlib.Core.Bool.{Bool, true, false, cond}
 use lib.Dec.{eqb, ltb}
+use Rattle.std.specs.Prelude.{Ok, Err}
 use Rattle.basics.specs.Limits.{rows_most, steps_most, events_most}
 use Rattle.refusal.specs.declared.Refusal.TheVariants.{BadEdition, BadEvents, Follows}
-use Rattle.number.specs.declared.NumberRead.{NumberRead}
-use Rattle.number.specs.declared.NumberRead.TheVariants.{Number, Refused as NoNumber}
-use Rattle.numbers.specs.declared.Part.{Part}
-use Rattle.numbers.specs.declared.Part.TheVariants.{Good, Fault}
-use Rattle.numbers.specs.Numbers.{Source, with_number, number_between, passed, numbers}
+use Rattle.number.specs.Number.{NumberRead, Number, fault}
+use Rattle.numbers.specs.Numbers.{Part, Reading, with_number, number_between, passed, numbers}
 use Rattle.numbers.proofs.Moved.{moved, moved_to, cond_moved, then_moved, between_moved, ranged_moved, passed_moved, numbers_moved}
 use Rattle.frame.specs.declared.Setup.{Setup}
 use Rattle.frame.specs.declared.RowKind.{RowKind}
@@ -45,16 +43,16 @@ module _ (to : ℕ → ℕ) where
 
   then_rows_lem : (j : Part) (setup : Setup) (f g : ℕ → RowsRead) → ((at : ℕ) → f (to at) ≡ rows_moved to (g at))
       → then_rows (moved_to to j) setup f ≡ rows_moved to (then_rows j setup g)
-  then_rows_lem (Good at) setup f g h = h at
-  then_rows_lem (Fault why p) setup f g h = refl
+  then_rows_lem (Ok at) setup f g h = h at
+  then_rows_lem (Err x) setup f g h = refl
 
   with_rows_lem : (got : NumberRead) (setup : Setup) (f g : ℕ → ℕ → RowsRead) → ((v next : ℕ) → f v (to next) ≡ rows_moved to (g v next))
       → with_rows (moved to got) setup f ≡ rows_moved to (with_rows got setup g)
   with_rows_lem (Number v next) setup f g h = h v next
-  with_rows_lem (NoNumber why p) setup f g h = refl
+  with_rows_lem (Err x) setup f g h = refl
 
 -- the source `a` has at the place `to i` what the source `b` has at i
-module _ (a b : Source) (to : ℕ → ℕ) (same : (i : ℕ) → a (to i) ≡ moved to (b i)) where
+module _ (a b : Reading) (to : ℕ → ℕ) (same : (i : ℕ) → a (to i) ≡ moved to (b i)) where
   rows_moved_lem : (kind : RowKind) (left i : ℕ) (setup : Setup) (at : ℕ)
       → rows_from kind a left i setup (to at) ≡ rows_moved to (rows_from kind b left i setup at)
   rows_moved_lem kind zero i setup at = refl
@@ -62,7 +60,7 @@ module _ (a b : Source) (to : ℕ → ℕ) (same : (i : ℕ) → a (to i) ≡ mo
       let more = put_row setup kind i (numbers b (row_size kind) at) in
       rw (passed_moved a b to same (row_size kind) at, numbers_moved a b to same (row_size kind) at)
       (then_rows_lem to (passed b (row_size kind) at) setup _ _ (λ next. cond_rows to (row_fits more kind i) (rows_from kind b left (i + 1) more next)
-      (rows_read more (Fault (bad_rows kind) at)) (rows_moved_lem kind left (i + 1) more next) refl))
+      (rows_read more (Err (fault (bad_rows kind) at))) (rows_moved_lem kind left (i + 1) more next) refl))
 
   counted_moved : (kind : RowKind) (setup : Setup) (at : ℕ) → counted_rows kind a setup (to at) ≡ rows_moved to (counted_rows kind b setup at)
   unfolding counted_rows
@@ -97,7 +95,7 @@ module _ (a b : Source) (to : ℕ → ℕ) (same : (i : ℕ) → a (to i) ≡ mo
   -- the two sheets begin together and end together
   module _ (la lb : ℕ) (ends : (i : ℕ) → ltb (to i) la ≡ ltb i lb) where
     ended_moved : (at : ℕ) → sheet_end la (to at) ≡ moved_to to (sheet_end lb at)
-    ended_moved at = rw (ends at) (cond_moved to (ltb at lb) (Fault Follows at) (Good at) refl refl)
+    ended_moved at = rw (ends at) (cond_moved to (ltb at lb) (Err (fault Follows at)) (Ok at) refl refl)
 
     body_moved : (at : ℕ) → body a la (to at) ≡ moved_to to (body b lb at)
     unfolding body

@@ -3,8 +3,8 @@ use Prim.Native.Nat.{ℕ, ◌≤◌}
 use mathlib.Core.Path.{◌≡◌, refl}
 use mathlib.Core.List.{List}
 use lib.ListN.{length}
+use Rattle.std.specs.Prelude.{Ok}
 use Rattle.number.specs.Number.{read_number, Bytes}
-use Rattle.numbers.specs.declared.Part.TheVariants.{Good}
 use Rattle.numbers.specs.Numbers.{list_at, numbers_of, all_bytes}
 use Rattle.numbers.proofs.Moved.{moved_to}
 use Rattle.numbers.proofs.RoundTrip.{Numbers, place, same_number, same_end, told, listed}
@@ -21,9 +21,9 @@ judged_alike list fit =
     sheet_moved (read_number (all_bytes list)) (list_at list) (place list) (same_number list fit) (length (all_bytes list)) (length list) (same_end list) refl
 
 -- The numbers of a good sheet are written as its bytes.
-pub bytes_back : (s : List ℕ) → Bytes s → {end : ℕ} → sheet (read_number s) (length s) ≡ Good end → all_bytes (numbers_of s) ≡ s
+pub bytes_back : (s : List ℕ) → Bytes s → {end : ℕ} → sheet (read_number s) (length s) ≡ Ok end → all_bytes (numbers_of s) ≡ s
 bytes_back s bytes e = (told s bytes (rw e at (sheet_tells (read_number s) (length s))) (sheet_parts (read_number s) (length s) e).whole).1
 
 -- The judgement of a valid list comes to its end, and it has at most 7,300 numbers.
-pub list_whole : (list : List ℕ) {end : ℕ} → sheet (list_at list) (length list) ≡ Good end → (end ≡ length list) × (length list ≤ 7300)
+pub list_whole : (list : List ℕ) {end : ℕ} → sheet (list_at list) (length list) ≡ Ok end → (end ≡ length list) × (length list ≤ 7300)
 list_whole list e = listed list (rw e at (sheet_tells (list_at list) (length list))) (sheet_parts (list_at list) (length list) e).whole

@@ -5,14 +5,12 @@ use mathlib.Core.Bool.{Bool, true, false, cond}
 use native.Mathlib.Nat.{suc-mul, mul-le-mul_right}
 use native.Mathlib.Omega.{arith}
 use lib.Dec.{eqb, ltb}
+use Rattle.std.specs.Prelude.{Ok, Err}
 use Rattle.basics.specs.Limits.{rows_most, steps_most, events_most}
 use Rattle.refusal.specs.Refusal.{refusal_number}
 use Rattle.refusal.specs.declared.Refusal.TheVariants.{BadEdition, BadEvents}
-use Rattle.number.specs.declared.NumberRead.{NumberRead}
-use Rattle.number.specs.declared.NumberRead.TheVariants.{Number, Refused as NoNumber}
-use Rattle.numbers.specs.declared.Part.{Part}
-use Rattle.numbers.specs.declared.Part.TheVariants.{Good, Fault}
-use Rattle.numbers.specs.Numbers.{Source, with_number, and_then, number_between, passed, numbers}
+use Rattle.number.specs.Number.{NumberRead, Number}
+use Rattle.numbers.specs.Numbers.{Part, Reading, with_number, ◌>>=◌, number_between, passed, numbers}
 use Rattle.numbers.proofs.Runs.{Tells, tells_none, tells_less, tells_then, tells_cond, tells_ranged, passed_tells}
 use Rattle.numbers.proofs.Runs.Tells.{fault}
 use Rattle.frame.specs.declared.Setup.{Setup}
@@ -27,19 +25,19 @@ bad_eleven Levels e = omega arith
 bad_eleven Slaves e = omega arith
 
 -- what is said of the part of rows that were read, by the rows' own ways of going on: each is that of parts
-then_part : (j : Part) (setup : Setup) (f : ℕ → RowsRead) → (then_rows j setup f).part ≡ and_then j (λ at. (f at).part)
-then_part (Good at) setup f = refl
-then_part (Fault why p) setup f = refl
+then_part : (j : Part) (setup : Setup) (f : ℕ → RowsRead) → (then_rows j setup f).part ≡ (j >>= λ at. (f at).part)
+then_part (Ok at) setup f = refl
+then_part (Err x) setup f = refl
 
 with_part : (got : NumberRead) (setup : Setup) (f : ℕ → ℕ → RowsRead) → (with_rows got setup f).part ≡ with_number got (λ v next. (f v next).part)
 with_part (Number v next) setup f = refl
-with_part (NoNumber why p) setup f = refl
+with_part (Err x) setup f = refl
 
 cond_part : (b : Bool) (x y : RowsRead) → (cond b x y).part ≡ cond b x.part y.part
 cond_part true x y = refl
 cond_part false x y = refl
 
-module _ (src : Source) where
+module _ (src : Reading) where
   rows_tell : (kind : RowKind) (left i : ℕ) (setup : Setup) (at : ℕ)
       → Tells src (left * row_size kind) at (rows_from kind src left i setup at).part
   rows_tell kind zero i setup at = tells_none

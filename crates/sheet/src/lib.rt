@@ -11,25 +11,19 @@ ghost use Rattle.sheet.specs.Sheet.{read_sheet, read_sheet_after, write_sheet, w
 
 use basics::{EVENTS_MOST, ROWS_MOST_U32, STEPS_MOST};
 use frame::{RowKind, Setup};
-use number::{NumberRead, NumberWritten};
-use numbers::Part;
+use number::Fault;
+use numbers::Source;
 use refusal::Refusal;
 
-// Rows that were read: the set-up with them, as far as that came, and the part of the sheet that they are.
+// Rows that were read: the set-up with them, as far as that came, and the place after them or the first fault. A Result of both would not have the set-up
+// before a fault, which `head_of` promises and `sheetlist::setup_of` reads.
 #[derive(Clone, Copy)]
 pub struct RowsRead {
     pub setup: Setup,
-    pub part: Part,
+    pub part: Result<usize, Fault>,
 }
 
-// What the reader and the writer answer: the length of the result; or the refusal, with its place.
-#[derive(Clone, Copy)]
-pub enum SheetAnswer {
-    Done(usize),
-    Refused(Refusal, usize),
-}
-
-// What refuses a row of a kind, or the count of such rows.
+// What refuses a row of a kind, or the count of such rows: a match, as frame has no word of a sheet's refusals.
 fn bad_rows(kind: RowKind) -> Refusal
     ensures { result ≡ bad_rows kind }
 {
@@ -40,222 +34,158 @@ fn bad_rows(kind: RowKind) -> Refusal
 }
 
 // The rows of a kind from a place on. A row is put into the set-up when all its numbers are read, and then tested.
-fn read_rows(
-    bytes: &[u8],
-    list: &[u32],
-    listed: bool,
-    kind: RowKind,
-    first: Setup,
-    count: usize,
-    at: usize,
-) -> RowsRead
+fn read_rows(source: Source, kind: RowKind, first: Setup, count: usize, at: usize) -> RowsRead
     requires { count ≤ rows_most }
-    ensures { result ≡ rows_from kind (number_at listed bytes.now list.now) count 0 first at }
+    ensures { result ≡ rows_from kind (number_at source.entry) count 0 first at }
 {
     let size = frame::row_size(kind);
     let mut setup = first;
-    let mut i: usize = 0;
     let mut place = at;
-    while i < count {
-        let got = numbers::numbers_at(bytes, list, listed, size, place);
-        let part = got.part;
-        let Part::Good(next) = part else {
+    for i in 0..count {
+        let row = source.numbers_at(size, place);
+        let Ok(next) = row.part else {
+            let part = row.part;
             return RowsRead { setup, part };
         };
-        let values = got.values;
-        setup = frame::put_row(setup, kind, i, values);
+        setup = frame::put_row(setup, kind, i, row.values);
         if !frame::row_fits(setup, kind, i) {
-            let part = Part::Fault(bad_rows(kind), place);
+            let why = bad_rows(kind);
+            let part = Err(Fault { why, place });
             return RowsRead { setup, part };
         }
         place = next;
-        i += 1;
     }
-    let part = Part::Good(place);
+    let part = Ok(place);
     RowsRead { setup, part }
 }
 
 // The count of rows of a kind, and the rows.
-fn counted_rows(
-    bytes: &[u8],
-    list: &[u32],
-    listed: bool,
-    kind: RowKind,
-    setup: Setup,
-    at: usize,
-) -> RowsRead
-    ensures { result ≡ counted_rows kind (number_at listed bytes.now list.now) setup at }
+#[tactic(auto, unfolding(crate::specs::Sheet::counted_rows))]
+fn counted_rows(source: Source, kind: RowKind, setup: Setup, at: usize) -> RowsRead
+    ensures { result ≡ counted_rows kind (number_at source.entry) setup at }
 {
-    let why = bad_rows(kind);
-    let got = numbers::number_between(bytes, list, listed, 1, ROWS_MOST_U32, why, at);
-    match got {
-        NumberRead::Refused(why, place) => {
-            let part = Part::Fault(why, place);
-            RowsRead { setup, part }
-        }
-        NumberRead::Number(n, next) => {
+    match source.number_between(1, ROWS_MOST_U32, bad_rows(kind), at) {
+        Ok((n, next)) => {
             let count = n as usize;
             let first = frame::with_count(setup, kind, count);
-            read_rows(bytes, list, listed, kind, first, count, next)
+            read_rows(source, kind, first, count, next)
+        }
+        Err(fault) => {
+            let part = Err(fault);
+            RowsRead { setup, part }
         }
     }
 }
 
 // The rows of both kinds.
-fn read_head(bytes: &[u8], list: &[u32], listed: bool, at: usize) -> RowsRead
-    ensures { result ≡ head (number_at listed bytes.now list.now) at }
+#[tactic(auto, unfolding(crate::specs::Sheet::head))]
+fn read_head(source: Source, at: usize) -> RowsRead
+    ensures { result ≡ head (number_at source.entry) at }
 {
-    let none = frame::no_rows();
-    let levels = counted_rows(bytes, list, listed, RowKind::Levels, none, at);
-    let part = levels.part;
-    let Part::Good(second) = part else {
+    let levels = counted_rows(source, RowKind::Levels, frame::no_rows(), at);
+    let Ok(second) = levels.part else {
         return levels;
     };
-    let setup = levels.setup;
-    counted_rows(bytes, list, listed, RowKind::Slaves, setup, second)
+    counted_rows(source, RowKind::Slaves, levels.setup, second)
 }
 
 // The rows of a sheet that is given as the list of its numbers.
+#[tactic(auto, unfolding(crate::specs::Sheet::head_of))]
 pub fn head_of(list: &[u32]) -> RowsRead
     ensures { result ≡ head_of list.now }
 {
-    // the list is read, and no bytes
-    let no_bytes = [0u8; 1];
-    read_head(&no_bytes, list, true, 1)
+    read_head(Source::List(list), 1)
 }
 
 // One event: its kind, and then a step count or the six numbers of a post.
-fn judge_event(bytes: &[u8], list: &[u32], listed: bool, at: usize) -> Part
-    ensures { result ≡ event (number_at listed bytes.now list.now) at }
+#[tactic(auto, unfolding(crate::specs::Sheet::event, numbers::specs::Numbers::numbers_at))]
+fn judge_event(source: Source, at: usize) -> Result<usize, Fault>
+    ensures { result ≡ event (number_at source.entry) at }
 {
-    let got = numbers::number_between(bytes, list, listed, 0, 1, Refusal::BadEvents, at);
-    match got {
-        NumberRead::Refused(why, place) => Part::Fault(why, place),
-        NumberRead::Number(kind, next) => {
-            if kind == 0 {
-                return judge_step_count(bytes, list, listed, next);
-            }
-            let post = numbers::numbers_at(bytes, list, listed, 6, next);
-            let part = post.part;
-            part
-        }
+    let (kind, next) = source.number_between(0, 1, Refusal::BadEvents, at)?;
+    if kind == 0 {
+        return judge_step_count(source, next);
     }
+    source.numbers_at(6, next).part
 }
 
 // A step count.
-fn judge_step_count(bytes: &[u8], list: &[u32], listed: bool, at: usize) -> Part
-    ensures { result ≡ step_count (number_at listed bytes.now list.now) at }
+#[tactic(auto, unfolding(crate::specs::Sheet::step_count))]
+fn judge_step_count(source: Source, at: usize) -> Result<usize, Fault>
+    ensures { result ≡ step_count (number_at source.entry) at }
 {
-    let got = numbers::number_between(bytes, list, listed, 1, STEPS_MOST, Refusal::BadEvents, at);
-    match got {
-        NumberRead::Refused(why, place) => Part::Fault(why, place),
-        NumberRead::Number(_, next) => Part::Good(next),
-    }
+    let (_, next) = source.number_between(1, STEPS_MOST, Refusal::BadEvents, at)?;
+    Ok(next)
 }
 
 // The n events from a place on.
-fn judge_events(bytes: &[u8], list: &[u32], listed: bool, n: usize, at: usize) -> Part
-    ensures { result ≡ events (number_at listed bytes.now list.now) n at }
+fn judge_events(source: Source, n: usize, at: usize) -> Result<usize, Fault>
+    ensures { result ≡ events (number_at source.entry) n at }
 {
-    let mut left = n;
     let mut place = at;
-    while 0 < left {
-        let event = judge_event(bytes, list, listed, place);
-        let Part::Good(next) = event else {
-            return event;
-        };
-        place = next;
-        left -= 1;
+    for _ in 0..n {
+        place = judge_event(source, place)?;
     }
-    Part::Good(place)
+    Ok(place)
 }
 
 // The event count and the events.
-fn judge_counted_events(bytes: &[u8], list: &[u32], listed: bool, at: usize) -> Part
-    ensures { result ≡ counted_events (number_at listed bytes.now list.now) at }
+#[tactic(auto, unfolding(crate::specs::Sheet::counted_events))]
+fn judge_counted_events(source: Source, at: usize) -> Result<usize, Fault>
+    ensures { result ≡ counted_events (number_at source.entry) at }
 {
-    let got = numbers::number_between(bytes, list, listed, 0, EVENTS_MOST, Refusal::BadEvents, at);
-    match got {
-        NumberRead::Refused(why, place) => Part::Fault(why, place),
-        NumberRead::Number(n, next) => judge_events(bytes, list, listed, n as usize, next),
-    }
+    let (n, next) = source.number_between(0, EVENTS_MOST, Refusal::BadEvents, at)?;
+    judge_events(source, n as usize, next)
 }
 
 // The end of the sheet: nothing follows.
-fn judge_end(bytes: &[u8], list: &[u32], listed: bool, at: usize) -> Part
-    ensures { result ≡ sheet_end (length_of listed bytes.now list.now) at }
+fn judge_end(source: Source, at: usize) -> Result<usize, Fault>
+    ensures { result ≡ sheet_end (length_of source.entry) at }
 {
-    if at < numbers::length_of(bytes, list, listed) {
-        return Part::Fault(Refusal::Follows, at);
+    if at < source.length_of() {
+        return Err(Fault {
+            why: Refusal::Follows,
+            place: at,
+        });
     }
-    Part::Good(at)
+    Ok(at)
 }
 
 // The rows and events after the edition, to the end.
-fn judge_body(bytes: &[u8], list: &[u32], listed: bool, at: usize) -> Part
-    ensures { result ≡
-        body (number_at listed bytes.now list.now) (length_of listed bytes.now list.now) at }
+#[tactic(auto, unfolding(crate::specs::Sheet::body))]
+fn judge_body(source: Source, at: usize) -> Result<usize, Fault>
+    ensures { result ≡ body (number_at source.entry) (length_of source.entry) at }
 {
-    let rows = read_head(bytes, list, listed, at);
-    let part = rows.part;
-    let Part::Good(third) = part else {
-        return part;
-    };
-    let events = judge_counted_events(bytes, list, listed, third);
-    let Part::Good(end) = events else {
-        return events;
-    };
-    judge_end(bytes, list, listed, end)
+    let third = read_head(source, at).part?;
+    let end = judge_counted_events(source, third)?;
+    judge_end(source, end)
 }
 
 // A whole sheet.
-fn judge(bytes: &[u8], list: &[u32], listed: bool) -> Part
-    ensures { result ≡
-        sheet (number_at listed bytes.now list.now) (length_of listed bytes.now list.now) }
+#[tactic(auto, unfolding(crate::specs::Sheet::sheet))]
+fn judge(source: Source) -> Result<usize, Fault>
+    ensures { result ≡ sheet (number_at source.entry) (length_of source.entry) }
 {
-    let edition = numbers::number_between(bytes, list, listed, 1, 1, Refusal::BadEdition, 0);
-    match edition {
-        NumberRead::Refused(why, place) => Part::Fault(why, place),
-        NumberRead::Number(_, first) => judge_body(bytes, list, listed, first),
-    }
+    let (_, first) = source.number_between(1, 1, Refusal::BadEdition, 0)?;
+    judge_body(source, first)
 }
 
-// Reads the bytes of a sheet into out, as the list of its numbers.
-pub fn read_sheet(bytes: &[u8], out: &mut [u32]) -> SheetAnswer
+// Reads the bytes of a sheet into out, as the list of its numbers, and gives how many they are.
+#[tactic(auto, unfolding(crate::specs::Sheet::read_sheet, crate::specs::Sheet::read_sheet_after))]
+pub fn read_sheet(bytes: &[u8], out: &mut [u32]) -> Result<usize, Fault>
     ensures value { result ≡ read_sheet bytes.now (length out.old) }
     ensures out_after { out.new ≡ read_sheet_after bytes.now out.old }
 {
-    // the judge is told to read the bytes, and looks at no list
-    let no_list = [0u32; 1];
-    let judged = judge(bytes, &no_list, false);
-    match judged {
-        Part::Fault(why, place) => SheetAnswer::Refused(why, place),
-        Part::Good(_) => {
-            let copied = numbers::copy_numbers(bytes, out);
-            match copied {
-                NumberWritten::Past(count) => SheetAnswer::Done(count),
-                NumberWritten::Refused(why) => SheetAnswer::Refused(why, 0),
-            }
-        }
-    }
+    judge(Source::Bytes(bytes))?;
+    numbers::copy_numbers(bytes, out).map_err(|why| Fault { why, place: 0 })
 }
 
-// Writes a sheet, given as the list of its numbers, as bytes into out.
-pub fn write_sheet(list: &[u32], out: &mut [u8]) -> SheetAnswer
+// Writes a sheet, given as the list of its numbers, as bytes into out, and gives how many they are.
+#[tactic(auto, unfolding(crate::specs::Sheet::write_sheet, crate::specs::Sheet::write_sheet_after))]
+pub fn write_sheet(list: &[u32], out: &mut [u8]) -> Result<usize, Fault>
     ensures value { result ≡ write_sheet list.now (length out.old) }
     ensures out_after { out.new ≡ write_sheet_after list.now out.old }
 {
-    // the judge is told to read the list, and looks at no bytes
-    let no_bytes = [0u8; 1];
-    let judged = judge(&no_bytes, list, true);
-    match judged {
-        Part::Fault(why, index) => SheetAnswer::Refused(why, index),
-        Part::Good(_) => {
-            let written = numbers::write_numbers(list, out, 0);
-            match written {
-                NumberWritten::Past(size) => SheetAnswer::Done(size),
-                NumberWritten::Refused(why) => SheetAnswer::Refused(why, 0),
-            }
-        }
-    }
+    judge(Source::List(list))?;
+    numbers::write_numbers(list, out, 0).map_err(|why| Fault { why, place: 0 })
 }

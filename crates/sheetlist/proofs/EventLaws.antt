@@ -11,11 +11,11 @@ use native.Mathlib.Omega.{arith}
 use borrow.Author.Tests.{lt-ltb}
 use lib.ListN.{length, get_or}
 use lib.Dec.{eqb}
+use Rattle.std.specs.Prelude.{Ok}
 use Rattle.basics.specs.Limits.{steps_most, events_most}
 use Rattle.basics.proofs.Tests.{by_test}
 use Rattle.refusal.specs.declared.Refusal.TheVariants.{BadEvents}
-use Rattle.numbers.specs.declared.Part.TheVariants.{Good}
-use Rattle.numbers.specs.Numbers.{list_at, number_between, passed}
+use Rattle.numbers.specs.Numbers.{Part, list_at, number_between, passed}
 use Rattle.numbers.proofs.Laws.{in_range_lem, stands}
 use Rattle.numbers.proofs.Parts.{with_good, then_good}
 use Rattle.sheet.specs.Sheet.{step_count, event, events, counted_events, sheet}
@@ -24,7 +24,7 @@ use Rattle.sheetlist.specs.declared.Event.TheVariants.{Steps, Post}
 use Rattle.sheetlist.specs.Held.{is_steps, post_at, events_from, event_count, event_at, first_event, next_event, event_from, event_of}
 use Rattle.sheetlist.proofs.Framed.{passed_listed, events_placed}
 
-good_one : {a b : ℕ} → Good a ≡ Good b → a ≡ b
+good_one : {a b : ℕ} → ◌≡◌ {A = Part} (Ok a) (Ok b) → a ≡ b
 good_one e = cc
 
 module _ (list : List ℕ) where
@@ -34,10 +34,10 @@ module _ (list : List ℕ) where
     least : 1 ≤ get_or list at 0
     most : get_or list at 0 ≤ steps_most
 
-  step_count_lem : (at : ℕ) {next : ℕ} → step_count (list_at list) at ≡ Good next → StepCount at next
+  step_count_lem : (at : ℕ) {next : ℕ} → step_count (list_at list) at ≡ Ok next → StepCount at next
   unfolding step_count
   step_count_lem at {next} e =
-      let w = with_good (number_between (list_at list) 1 steps_most BadEvents at) (λ n to. Good to) e in
+      let w = with_good (number_between (list_at list) 1 steps_most BadEvents at) (λ n to. Ok to) e in
       let r = in_range_lem (list_at list) 1 steps_most BadEvents at w.2 in
       let s = stands list at r.stands in
       let same : w.1 ≡ next = good_one w.3 in
@@ -55,13 +55,13 @@ module _ (list : List ℕ) where
     pub steps : is_steps list at ≡ true → (1 ≤ get_or list (at + 1) 0) × (get_or list (at + 1) 0 ≤ steps_most)
 
   event_from_lem : (at kind to : ℕ) {next : ℕ} → kind ≡ get_or list at 0 → kind ≤ 1 → to ≡ at + 1 → at < length list
-      → cond (eqb kind 0) (step_count (list_at list) to) (passed (list_at list) 6 to) ≡ Good next → Event-good at next
+      → cond (eqb kind 0) (step_count (list_at list) to) (passed (list_at list) 6 to) ≡ Ok next → Event-good at next
   unfolding next_event
   event_from_lem at kind to {next} k m p h e =
       let inside = lt-ltb at (length list) h in
       by_test (is_steps list at)
       (λ t.
-      let q : step_count (list_at list) (at + 1) ≡ Good next = rw (k, p, t) at e in
+      let q : step_count (list_at list) (at + 1) ≡ Ok next = rw (k, p, t) at e in
       let c = step_count_lem (at + 1) q in
       record {
         inside = h;
@@ -70,7 +70,7 @@ module _ (list : List ℕ) where
         steps = λ b. (c.least, c.most);
       })
       (λ f.
-      let q : passed (list_at list) 6 (at + 1) ≡ Good next = rw (k, p, f) at e in
+      let q : passed (list_at list) 6 (at + 1) ≡ Ok next = rw (k, p, f) at e in
       let c = passed_listed list 6 (at + 1) q in
       record {
         inside = h;
@@ -79,7 +79,7 @@ module _ (list : List ℕ) where
         steps = λ b. absurd (false≢true (sym f ∙ b));
       })
 
-  event_good : (at : ℕ) {next : ℕ} → event (list_at list) at ≡ Good next → Event-good at next
+  event_good : (at : ℕ) {next : ℕ} → event (list_at list) at ≡ Ok next → Event-good at next
   unfolding event
   event_good at e =
       let w = with_good (number_between (list_at list) 0 1 BadEvents at)
@@ -93,7 +93,7 @@ module _ (list : List ℕ) where
     ends : end ≡ event_from list m
     each : (j : ℕ) → i ≤ j → j < m → Event-good (event_from list j) (event_from list (suc j))
 
-  events_good : (n i m : ℕ) {end : ℕ} → m ≡ i + n → events (list_at list) n (event_from list i) ≡ Good end → Events-good i m end
+  events_good : (n i m : ℕ) {end : ℕ} → m ≡ i + n → events (list_at list) n (event_from list i) ≡ Ok end → Events-good i m end
   unfolding event_from
   events_good zero i m {end} p e =
       let all : i ≡ m = omega arith in
@@ -108,7 +108,7 @@ module _ (list : List ℕ) where
             (λ k. r.each j k h) (eq-or-lt_of_le l);
       }
 
-  events_all : {end : ℕ} → sheet (list_at list) (length list) ≡ Good end → Events-good 0 (event_count list) (length list)
+  events_all : {end : ℕ} → sheet (list_at list) (length list) ≡ Ok end → Events-good 0 (event_count list) (length list)
   unfolding counted_events event_count event_from
   events_all g =
       let e = rw (list_whole list g).0 at (events_placed list g) in
@@ -117,11 +117,11 @@ module _ (list : List ℕ) where
       events_good (event_count list) 0 (event_count list) (sym (zero-add (event_count list))) (rw (s.value, s.next_is) at w.3)
 
   -- Every event of a valid list passes the judge where the walk comes to it.
-  pub event_each : {end : ℕ} → sheet (list_at list) (length list) ≡ Good end → (i : ℕ) → i < event_count list
+  pub event_each : {end : ℕ} → sheet (list_at list) (length list) ≡ Ok end → (i : ℕ) → i < event_count list
       → Event-good (event_from list i) (event_from list (suc i))
   event_each g i h = (events_all g).each i (omega arith) h
 
-  pub few_events : {end : ℕ} → sheet (list_at list) (length list) ≡ Good end → event_count list ≤ events_most
+  pub few_events : {end : ℕ} → sheet (list_at list) (length list) ≡ Ok end → event_count list ≤ events_most
   unfolding counted_events event_count
   few_events g =
       let w = with_good (number_between (list_at list) 0 events_most BadEvents (events_from list)) (λ n next. events (list_at list) n next)
@@ -139,11 +139,11 @@ module _ (list : List ℕ) where
   next_post at h f = rw (lt-ltb at (length list) h, f)
 
   -- The events of a valid list end where the list ends.
-  pub events_end : {end : ℕ} → sheet (list_at list) (length list) ≡ Good end → event_from list (event_count list) ≡ length list
+  pub events_end : {end : ℕ} → sheet (list_at list) (length list) ≡ Ok end → event_from list (event_count list) ≡ length list
   events_end g = sym (events_all g).ends
 
   -- Every event of a valid list that is no post is of 1 to 65,535 steps.
-  pub steps_in_range : {end : ℕ} (i n : ℕ) → sheet (list_at list) (length list) ≡ Good end → i < event_count list → event_of list i ≡ Steps n
+  pub steps_in_range : {end : ℕ} (i n : ℕ) → sheet (list_at list) (length list) ≡ Ok end → i < event_count list → event_of list i ≡ Steps n
       → (1 ≤ n) × (n ≤ steps_most)
   unfolding event_of event_at
   steps_in_range i n g h e =

@@ -9,15 +9,15 @@ use native.Mathlib.Numerals.{add-one}
 use native.Mathlib.Omega.{arith}
 use borrow.Author.Tests.{le-leb}
 use lib.ListN.{length, get_or, take}
+use Rattle.std.specs.Prelude.{Ok, Err}
 use Rattle.basics.specs.Limits.{rows_most, store_most}
 use Rattle.basics.specs.Scan.{all_below}
 use Rattle.basics.proofs.ScanLaws.{all_intro}
 use Rattle.basics.proofs.Tests.{and_both}
-use Rattle.refusal.specs.declared.Refusal.{Refusal}
 use Rattle.refusal.specs.declared.Refusal.TheVariants.{BadEdition}
-use Rattle.number.specs.Number.{Bytes}
-use Rattle.numbers.specs.declared.Part.TheVariants.{Good, Fault}
-use Rattle.numbers.specs.Numbers.{list_at, number_between, passed, numbers, numbers_of}
+use Rattle.number.specs.declared.Fault.{Fault}
+use Rattle.number.specs.Number.{fault, Bytes}
+use Rattle.numbers.specs.Numbers.{Part, list_at, number_between, passed, numbers, numbers_of}
 use Rattle.numbers.proofs.Laws.{in_range_lem, stands}
 use Rattle.numbers.proofs.Parts.{no_good, with_good}
 use Rattle.frame.specs.declared.Setup.{Setup}
@@ -45,26 +45,25 @@ use Rattle.frame.proofs.KindLaws.{
   count_others,
 }
 use Rattle.sheet.specs.declared.RowsRead.{RowsRead}
-use Rattle.sheet.specs.declared.SheetAnswer.TheVariants.{Done}
 use Rattle.sheet.specs.Sheet.{bad_rows, rows_read, rows_from, counted_rows, head, head_of, counted_events, sheet, read_sheet, read_sheet_after}
 use Rattle.sheet.proofs.Calls.{read_list}
 use Rattle.sheet.proofs.Parts.{sheet_parts, head_parts, then_rows_good, with_rows_good}
 use Rattle.sheetlist.specs.Held.{setup_of, events_from}
 
-good_one : {a b : ℕ} → Good a ≡ Good b → a ≡ b
+good_one : {a b : ℕ} → ◌≡◌ {A = Part} (Ok a) (Ok b) → a ≡ b
 good_one e = cc
 
-part_of : {a b : RowsRead} {end : ℕ} → a ≡ b → a.part ≡ Good end → b.part ≡ Good end
+part_of : {a b : RowsRead} {end : ℕ} → a ≡ b → a.part ≡ Ok end → b.part ≡ Ok end
 part_of e p = sym (ap (λ (r : RowsRead). r.part) e) ∙ p
 
-fit_good : (b : Bool) (x : RowsRead) (setup : Setup) (why : Refusal) (p : ℕ) {end : ℕ} → (cond b x (rows_read setup (Fault why p))).part ≡ Good end
-    → (b ≡ true) × (cond b x (rows_read setup (Fault why p)) ≡ x)
-fit_good true x setup why p e = (refl, refl)
-fit_good false x setup why p e = no_good e
+fit_good : (b : Bool) (x : RowsRead) (setup : Setup) (f : Fault) {end : ℕ} → (cond b x (rows_read setup (Err f))).part ≡ Ok end
+    → (b ≡ true) × (cond b x (rows_read setup (Err f)) ≡ x)
+fit_good true x setup f e = (refl, refl)
+fit_good false x setup f e = no_good e
 
 module _ (list : List ℕ) where
   -- numbers in a row
-  pub passed_listed : (n at : ℕ) {next : ℕ} → passed (list_at list) n at ≡ Good next → next ≡ at + n
+  pub passed_listed : (n at : ℕ) {next : ℕ} → passed (list_at list) n at ≡ Ok next → next ≡ at + n
   passed_listed zero at {next} e = let a : at ≡ next = cc in omega arith
   passed_listed (suc n) at e =
       let w = with_good (list_at list at) (λ v to. passed (list_at list) n to) e in
@@ -98,7 +97,7 @@ module _ (list : List ℕ) where
 
     -- `r` is what the rows left give
     rows_held : (left i n : ℕ) (setup : Setup) (at : ℕ) (r : RowsRead) {end : ℕ} → r ≡ rows_from kind (list_at list) left i setup at
-        → at ≡ from + i * row_size kind → n ≡ i + left → n ≤ rows_most → Held i setup → r.part ≡ Good end
+        → at ≡ from + i * row_size kind → n ≡ i + left → n ≤ rows_most → Held i setup → r.part ≡ Ok end
         → Held n r.setup × (end ≡ from + n * row_size kind)
     rows_held zero i n setup at r {end} e here all few h p =
         let same : i ≡ n = omega arith in
@@ -108,7 +107,7 @@ module _ (list : List ℕ) where
         let row = numbers (list_at list) (row_size kind) at in
         let more = put_row setup kind i row in
         let a = then_rows_good (passed (list_at list) (row_size kind) at) setup _ (part_of e p) in
-        let b = fit_good (row_fits more kind i) _ more (bad_rows kind) at (part_of (e ∙ a.2) p) in
+        let b = fit_good (row_fits more kind i) _ more (fault (bad_rows kind) at) (part_of (e ∙ a.2) p) in
         let next : a.0 ≡ from + suc i * row_size kind = omega (arith, passed_listed (row_size kind) at a.1, suc-mul i (row_size kind)) in
         let on = ap (λ (k : ℕ). rows_from kind (list_at list) left k more a.0) (add-one i) in
         rows_held left (suc i) n more a.0 r (e ∙ a.2 ∙ b.1 ∙ on) next (omega arith) few
@@ -126,7 +125,7 @@ module _ (list : List ℕ) where
     ends : end ≡ at + 1 + get_or list at 0 * row_size kind
 
   section_held : (kind : RowKind) (first : Setup) (at : ℕ) (r : RowsRead) {end : ℕ} → Wide first → r ≡ counted_rows kind (list_at list) first at
-      → r.part ≡ Good end → Section kind first at end r.setup
+      → r.part ≡ Ok end → Section kind first at end r.setup
   unfolding counted_rows is_row_count
   section_held kind first at r {end} wide e p =
       let src = list_at list in
@@ -169,16 +168,16 @@ module _ (list : List ℕ) where
     levels : Setup
     level_rows_lem : Section Levels no_rows 1 second levels
     slave_rows_lem : Section Slaves levels second (events_from list) (head_of list).setup
-    events_good : counted_events (list_at list) (events_from list) ≡ Good end
+    events_good : counted_events (list_at list) (events_from list) ≡ Ok end
     whole : length list ≤ end
 
-  places : {end : ℕ} → sheet (list_at list) (length list) ≡ Good end → Places end
+  places : {end : ℕ} → sheet (list_at list) (length list) ≡ Ok end → Places end
   unfolding events_from head_of
   places {end} g =
       let src = list_at list in
       let p = sheet_parts src (length list) g in
       let first : p.first ≡ 1 = omega (arith, (stands list 0 (in_range_lem src 1 1 BadEdition 0 p.edition_good).stands).next_is) in
-      let good : (head src 1).part ≡ Good p.third = rw first at p.head_good in
+      let good : (head src 1).part ≡ Ok p.third = rw first at p.head_good in
       let h = head_parts src 1 good in
       let levels = counted_rows Levels src no_rows 1 in
       let l = section_held Levels no_rows 1 levels no_rows_wide refl h.levels_good in
@@ -192,11 +191,11 @@ module _ (list : List ℕ) where
         whole = p.whole;
       }
 
-  pub events_placed : {end : ℕ} → sheet (list_at list) (length list) ≡ Good end → counted_events (list_at list) (events_from list) ≡ Good end
+  pub events_placed : {end : ℕ} → sheet (list_at list) (length list) ≡ Ok end → counted_events (list_at list) (events_from list) ≡ Ok end
   events_placed g = (places g).events_good
 
   -- The set-up of a valid list keeps the frame, for every master length of 1 to 65,536.
-  pub setup_framed : (master : ℕ) {end : ℕ} → sheet (list_at list) (length list) ≡ Good end → 1 ≤ master → master ≤ store_most
+  pub setup_framed : (master : ℕ) {end : ℕ} → sheet (list_at list) (length list) ≡ Ok end → 1 ≤ master → master ≤ store_most
       → is_framed (setup_of list master) ≡ true
   unfolding is_framed is_master_length levels_fit slaves_fit setup_of
   setup_framed master g low high =
@@ -224,7 +223,7 @@ module _ (list : List ℕ) where
         → slave_at (head_of list).setup.slaves j ≡ slave_from (numbers (list_at list) 5 (slaves_from + 1 + j * 5))
     pub events : events_from list ≡ slaves_from + 1 + slave_count * 5
 
-  pub indexed : {end : ℕ} → sheet (list_at list) (length list) ≡ Good end → Indexed
+  pub indexed : {end : ℕ} → sheet (list_at list) (length list) ≡ Ok end → Indexed
   indexed g =
       let p = places g in
       let same = p.slave_rows_lem.others Levels other_kind in
@@ -239,7 +238,7 @@ module _ (list : List ℕ) where
       }
 
 -- What was read from a sheet holds a set-up that keeps the frame.
-pub read_framed : (bytes out : List ℕ) (master : ℕ) {n : ℕ} → Bytes bytes → read_sheet bytes (length out) ≡ Done n → 1 ≤ master
+pub read_framed : (bytes out : List ℕ) (master : ℕ) {n : ℕ} → Bytes bytes → read_sheet bytes (length out) ≡ Ok n → 1 ≤ master
     → master ≤ store_most
     → is_framed (setup_of (take n (read_sheet_after bytes out)) master) ≡ true
 read_framed bytes out master y e low high =

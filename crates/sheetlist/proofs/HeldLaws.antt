@@ -7,8 +7,8 @@ use native.Mathlib.Omega.{arith}
 use borrow.Author.Tests.{ltb-false}
 use lib.ListN.{length, get_or, get_or-eq_default}
 use lib.Dec.{ltb}
+use Rattle.std.specs.Prelude.{Ok}
 use Rattle.basics.proofs.Tests.{by_test}
-use Rattle.numbers.specs.declared.Part.TheVariants.{Good}
 use Rattle.numbers.specs.Numbers.{list_at, numbers}
 use Rattle.numbers.proofs.RoundTrip.{part_ends}
 use Rattle.sheet.specs.Sheet.{head_of}
@@ -54,6 +54,6 @@ event_none list at h =
     rw (get_or-eq_default list 0 h, get_or-eq_default list 0 far)
 
 -- the rows end at most one past the list's end
-pub head_ends : (list : List ℕ) {end : ℕ} → (head_of list).part ≡ Good end → end ≤ length list + 1
+pub head_ends : (list : List ℕ) {end : ℕ} → (head_of list).part ≡ Ok end → end ≤ length list + 1
 unfolding head_of
 head_ends list e = part_ends list (rw e at (head_tells (list_at list) 1)) (omega arith)

@@ -8,6 +8,7 @@ use native.Mathlib.Omega.{arith}
 use borrow.Author.Tests.{ltb-true, ltb-false}
 use lib.ListN.{length, get_or}
 use lib.Dec.{ltb}
+use Rattle.std.specs.Prelude.{Ok}
 use Rattle.basics.specs.Limits.{rows_most, store_most}
 use Rattle.basics.proofs.Tests.{by_test}
 use Rattle.cycle.proofs.Widths.{width_some, port_some}
@@ -19,7 +20,6 @@ use Rattle.frame.specs.Frame.{slave_at, rows_present, lengths_before, levels_fit
 use Rattle.frame.specs.Find.{slave_store_length}
 use Rattle.frame.proofs.FrameLaws.{LevelFacts, SlaveFacts, level_count_lem, level_row_facts, limit_most, framed_levels, framed_slaves}
 use Rattle.frame.proofs.SlaveLaws.{slave_count_lem, slave_row_facts, row_inside, store_most_lem}
-use Rattle.numbers.specs.declared.Part.TheVariants.{Good}
 use Rattle.numbers.specs.Numbers.{list_at, numbers, numbers_of, all_bytes}
 use Rattle.numbers.proofs.Laws.{in_range_lem, stands}
 use Rattle.numbers.proofs.RoundTrip.{place, place_on, place_end}
@@ -59,7 +59,7 @@ module _ (list : List ℕ) where
   abbrev slaves_of : SlaveRows
   slaves_of = (head_of list).setup.slaves
 
-  module _ {end : ℕ} (valid : sheet (list_at list) (length list) ≡ Good end) where
+  module _ {end : ℕ} (valid : sheet (list_at list) (length list) ≡ Ok end) where
     levels_framed : levels_fit levels_of ≡ true
     unfolding setup_of
     levels_framed = framed_levels (setup_of list 1) (setup_framed list 1 valid (omega arith) (omega arith))
@@ -229,5 +229,5 @@ module _ (list : List ℕ) where
         )
 
 -- A valid sheet has at most 31,960 bytes, as the reader gets it.
-pub sheet_whole : (bytes : List ℕ) {end : ℕ} → Bytes bytes → sheet (read_number bytes) (length bytes) ≡ Good end → length bytes ≤ 31960
+pub sheet_whole : (bytes : List ℕ) {end : ℕ} → Bytes bytes → sheet (read_number bytes) (length bytes) ≡ Ok end → length bytes ≤ 31960
 sheet_whole bytes y g = rw (bytes_back bytes y g) at (bytes_whole (numbers_of bytes) (list_good bytes y g).1)

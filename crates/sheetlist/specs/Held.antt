@@ -1,10 +1,9 @@
 -- Document 01, "The job sheet": the set-up and the events that the list of a valid sheet holds. The set-up is the one that the sheet's judge has judged; what
 -- the definitions give for a list that no valid sheet has is of no interest.
-use Rattle.std.specs.Prelude.{ℕ, zero, suc, ◌+◌, Bool, cond, List, length, get_or, eqb, ltb}
+use Rattle.std.specs.Prelude.{ℕ, zero, suc, ◌+◌, Bool, cond, List, length, get_or, eqb, ltb, Ok, Err}
+use Rattle.numbers.specs.Numbers.{Part}
 use Rattle.frame.specs.declared.Setup.{Setup}
 use Rattle.frame.specs.declared.Order.{Order}
-use Rattle.numbers.specs.declared.Part.{Part}
-use Rattle.numbers.specs.declared.Part.TheVariants.{Good, Fault}
 use Rattle.sheet.specs.Sheet.{head_of}
 use Rattle.sheetlist.specs.declared.Event.{Event}
 use Rattle.sheetlist.specs.declared.Event.TheVariants.{Steps, Post}
@@ -16,8 +15,8 @@ setup_of list master = record { levels = (head_of list).setup.levels; slaves = (
 -- "Sheet: edition 1; level count and rows ..; slave count and rows ..; event count .. and events": the event count stands after the rows. Where those
 -- are at fault there is none, as after the list's end
 abbrev pub place_or : Part → ℕ → ℕ
-place_or (Good at) other = at
-place_or (Fault why place) other = other
+place_or (Ok at) other = at
+place_or (Err f) other = other
 
 unfoldable pub events_from : List ℕ → ℕ
 events_from list = place_or (head_of list).part (length list)

@@ -7,7 +7,6 @@ ghost use Rattle.sheetlist.specs.Held.{events_from, setup_of};
 ghost use Rattle.sheetlist.specs.Held.{event_count, first_event, post_at, event_at, next_event, event_of};
 
 use frame::{Order, Setup};
-use numbers::Part;
 
 // A number of steps, or a post.
 #[derive(Clone, Copy)]
@@ -20,41 +19,31 @@ pub enum Event {
 fn number_in(list: &[u32], i: usize) -> u32
     ensures { result ≡ get_or list.now i 0 }
 {
-    if i < list.len() {
-        return list[i];
-    }
-    0
+    list.get(i).copied().unwrap_or(0)
 }
 
 // The set-up, with a master length that the sheet does not have.
+#[tactic(auto, unfolding(crate::specs::Held::setup_of))]
 pub fn setup_of(list: &[u32], master: u32) -> Setup
     ensures { result ≡ setup_of list.now master }
 {
-    let rows = sheet::head_of(list);
-    let setup = rows.setup;
-    let levels = setup.levels;
-    let slaves = setup.slaves;
     Setup {
-        levels,
-        slaves,
         master,
+        ..sheet::head_of(list).setup
     }
 }
 
 // The index of the event count.
+#[tactic(auto, unfolding(crate::specs::Held::events_from), using(crate::proofs::HeldLaws::head_ends))]
 fn events_from(list: &[u32]) -> usize
     ensures value { result ≡ events_from list.now }
     ensures upper_bound { result ≤ length list.now + 1 }
 {
-    let rows = sheet::head_of(list);
-    let part = rows.part;
-    match part {
-        Part::Good(at) => at,
-        Part::Fault(_, _) => list.len(),
-    }
+    sheet::head_of(list).part.unwrap_or(list.len())
 }
 
 // How many events there are.
+#[tactic(auto, unfolding(crate::specs::Held::event_count))]
 pub fn event_count(list: &[u32]) -> usize
     ensures { result ≡ event_count list.now }
 {
@@ -69,6 +58,7 @@ pub fn first_event(list: &[u32]) -> usize
 }
 
 // The event that begins at an index.
+#[tactic(auto, unfolding(crate::specs::Held::event_at))]
 pub fn event_at(list: &[u32], at: usize) -> Event
     ensures { result ≡ event_at list.now at }
 {
@@ -97,6 +87,7 @@ fn post_at(list: &[u32], at: usize) -> Order
 }
 
 // The index past the event that begins at an index.
+#[tactic(auto, unfolding(crate::specs::Held::next_event))]
 pub fn next_event(list: &[u32], at: usize) -> usize
     ensures { result ≡ next_event list.now at }
 {
@@ -107,14 +98,13 @@ pub fn next_event(list: &[u32], at: usize) -> usize
 }
 
 // Event i, counted from 0. A walk with `first_event`, `event_at` and `next_event` takes each event in a single step.
+#[tactic(auto, unfolding(crate::specs::Held::event_of, crate::specs::Held::event_from))]
 pub fn event_of(list: &[u32], i: usize) -> Event
     ensures { result ≡ event_of list.now i }
 {
     let mut at = first_event(list);
-    let mut k: usize = 0;
-    while k < i {
+    for _ in 0..i {
         at = next_event(list, at);
-        k += 1;
     }
     event_at(list, at)
 }

@@ -16,7 +16,7 @@ ghost use Rattle.std.specs.Io.KnownBytes.{Consumes, IsAtEnd};
 ghost use Rattle.sheethost.specs.Host.{four_bytes};
 
 use failure::Failure;
-use log::run_sheet;
+use log::{Asked, run_sheet};
 use std::io::{Input, Read};
 use std::process::ExitCode;
 use std::rt::Env;
@@ -70,78 +70,51 @@ fn run_next(
     input: &mut impl Read,
     output: &impl Print,
     buf: &mut [u8],
-    slave: &mut [u8],
-    master: &mut [u8],
-    out: &mut [u8],
-    levels: &[u32],
+    asked: Asked,
 ) -> Result<bool, Failure> {
     let Some(size) = next_size(input)? else {
         return Ok(false);
     };
     next_bytes(input, buf, size)?;
-    run_sheet(output, &buf[..size], slave, master, out, levels, true)?;
+    run_sheet(output, &buf[..size], asked)?;
     Ok(true)
 }
 
 // Sheets until the input ends.
-fn run_all(
-    input: &mut impl Read,
-    output: &impl Print,
-    buf: &mut [u8],
-    slave: &mut [u8],
-    master: &mut [u8],
-    out: &mut [u8],
-    levels: &[u32],
-) -> Result<(), Failure> {
+fn run_many(rt: &(impl Input + Print), levels: &[u32]) -> Result<(), Failure> {
+    let mut input = rt.reader();
+    let mut buf = [0u8; LARGE];
+    let asked = Asked {
+        levels,
+        digests: true,
+    };
     for _ in 0..u64::MAX {
-        if !run_next(input, output, buf, slave, master, out, levels)? {
+        if !run_next(&mut input, rt, &mut buf, asked)? {
             return Ok(());
         }
     }
     Ok(())
 }
 
-fn run_many(rt: &(impl Input + Print), levels: &[u32]) -> Result<(), Failure> {
-    let mut input = [0u8; LARGE];
-    let mut slave = [0u8; LARGE];
-    let mut master = [0u8; MASTER];
-    let mut out = [0u8; LARGE];
-    run_all(
-        &mut rt.reader(),
-        rt,
-        &mut input,
-        &mut slave,
-        &mut master,
-        &mut out,
-        levels,
-    )
-}
-
 // What follows the bytes of the longest sheet has no part in the judgement, but whoever writes to a pipe is not cut off.
-fn read_past(input: &mut impl Read, size: usize, rest: &mut [u8]) -> Result<(), Failure> {
+fn read_past(input: &mut impl Read, size: usize) -> Result<(), Failure> {
     if size < LARGE {
         return Ok(());
     }
-    read_rest(input, rest)
+    let mut rest = [0u8; LARGE];
+    read_rest(input, &mut rest)
 }
 
 fn run_one(rt: &(impl Input + Print), levels: &[u32]) -> Result<(), Failure> {
-    let mut input = [0u8; LARGE];
-    let mut slave = [0u8; LARGE];
-    let mut master = [0u8; MASTER];
-    let mut out = [0u8; LARGE];
-    let mut reader = rt.reader();
-    let size = read_whole(&mut reader, &mut input)?;
-    read_past(&mut reader, size, &mut out)?;
-    run_sheet(
-        rt,
-        &input[..size],
-        &mut slave,
-        &mut master,
-        &mut out,
+    let mut input = rt.reader();
+    let mut buf = [0u8; LARGE];
+    let size = read_whole(&mut input, &mut buf)?;
+    read_past(&mut input, size)?;
+    let asked = Asked {
         levels,
-        false,
-    )
+        digests: false,
+    };
+    run_sheet(rt, &buf[..size], asked)
 }
 
 // One argument, which says what many sheets are to print.

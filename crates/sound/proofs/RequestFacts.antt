@@ -5,14 +5,14 @@ use mathlib.Core.Bool.{true, and-false}
 use native.Mathlib.Omega.{arith}
 use borrow.Author.Tests.{leb-true, le-leb, ltb-false, le-ltb}
 use lib.Dec.{leb}
+use Rattle.std.specs.Prelude.{Err, Some}
+use Rattle.refusal.specs.Refusal.{accepted}
 use Rattle.refusal.specs.declared.Refusal.{Refusal}
-use Rattle.refusal.specs.declared.Verdict.TheVariants.{Accepted, Refused}
 use Rattle.basics.specs.Limits.{request_most}
 use Rattle.basics.proofs.Tests.{by_test, need}
 use Rattle.cycle.specs.Cycle.{is_length}
 use Rattle.cycle.proofs.TransferLaws.{time_most}
 use Rattle.frame.specs.declared.Setup.{Setup}
-use Rattle.frame.specs.declared.FoundSlave.TheVariants.{Row as Slave}
 use Rattle.frame.specs.Frame.{is_framed}
 use Rattle.frame.specs.Rows.{is_present, level_of}
 use Rattle.frame.specs.Allowance.{allowance_of}
@@ -30,14 +30,14 @@ pub record Fits (setup : Setup) (l : ℕ) (q : Request) : Type 0 where
   pub most : q.left ≤ request_most
   pub direction : q.direction ≤ 1
   pub space : q.space ≤ 1
-  pub found : slave_for setup.slaves q ≡ Slave (slave_of setup.slaves q) (start_of setup.slaves q)
+  pub found : slave_for setup.slaves q ≡ Some (slave_of setup.slaves q, start_of setup.slaves q)
   pub master : q.offset + q.left ≤ setup.master
 
 module _ (setup : Setup) (l : ℕ) (q : Request) where
-  not_refused : {r : Refusal} → Refused r ≡ Accepted → ⊥
+  not_refused : {r : Refusal} → Err r ≡ accepted → ⊥
   not_refused e = let z : ◌≡◌ {A = ℕ} 0 1 = cc in omega arith
 
-  pub fits_is : request_verdict setup l q ≡ Accepted → Fits setup l q
+  pub fits_is : request_verdict setup l q ≡ accepted → Fits setup l q
   unfolding request_verdict is_in_range is_length slave_of start_of
   fits_is e =
       let range = by_test (is_in_range q) (λ t. t) (λ f. absurd (not_refused (rw f at e))) in
@@ -54,7 +54,7 @@ module _ (setup : Setup) (l : ℕ) (q : Request) where
         master = ltb-false setup.master (q.offset + q.left) master;
       }
 
-  pub fits_by : Fits setup l q → request_verdict setup l q ≡ Accepted
+  pub fits_by : Fits setup l q → request_verdict setup l q ≡ accepted
   unfolding request_verdict is_in_range is_length
   fits_by f =
       rw (

@@ -7,6 +7,7 @@ use native.Mathlib.Omega.{arith}
 use borrow.Author.Tests.{le-leb, eq-eqb}
 use lib.ListN.{get_or, replicate, get_or-replicate}
 use lib.Dec.{eqb}
+use Rattle.std.specs.Prelude.{None, Option, Some}
 use Rattle.basics.specs.Limits.{places}
 use Rattle.basics.proofs.Tests.{by_test}
 use Rattle.frame.specs.declared.Setup.{Setup}
@@ -14,8 +15,6 @@ use Rattle.frame.specs.Frame.{is_framed}
 use Rattle.frame.specs.Allowance.{allowance_of, is_within}
 use Rattle.channel.specs.declared.Phase.{Phase}
 use Rattle.channel.specs.declared.Phase.TheVariants.{Arbitrating, Granted}
-use Rattle.channel.specs.declared.Asked.{Asked}
-use Rattle.channel.specs.declared.Asked.TheVariants.{Never, At}
 use Rattle.channel.specs.declared.Channel.{Channel}
 use Rattle.channel.specs.Channel.{request_of, changed, Shaped}
 use Rattle.channel.specs.Line.{is_inactive, line, clear_marks, asked_now, set_asked, line_rule}
@@ -60,20 +59,20 @@ module _ (setup : Setup) (ch : Channel) where
       (λ f. absurd (false≢true (sym (rw (f, get_or-replicate places l false false k)) ∙ e)))
 
 -- what the line rule says of the asked time, taken apart
-now_at : (p : Phase) (a : Asked) (active : Bool) (clock o t : ℕ) → p ≡ Granted o → asked_now p a active clock ≡ At t
-    → (a ≡ At t) ⊎ ((active ≡ true) × (t ≡ clock))
+now_at : (p : Phase) (a : Option ℕ) (active : Bool) (clock o t : ℕ) → p ≡ Granted o → asked_now p a active clock ≡ Some t
+    → (a ≡ Some t) ⊎ ((active ≡ true) × (t ≡ clock))
 now_at Arbitrating a active clock o t e f = let z : ◌≡◌ {A = ℕ} 0 1 = cc in absurd (omega arith)
-now_at (Granted p) (At s) active clock o t e f = inl f
-now_at (Granted p) Never true clock o t e f = inr (refl, cc)
-now_at (Granted p) Never false clock o t e f = let z : ◌≡◌ {A = ℕ} 0 1 = cc in absurd (omega arith)
+now_at (Granted p) (Some s) active clock o t e f = inl f
+now_at (Granted p) None true clock o t e f = inr (refl, cc)
+now_at (Granted p) None false clock o t e f = let z : ◌≡◌ {A = ℕ} 0 1 = cc in absurd (omega arith)
 
-now_never : (p : Phase) (a : Asked) (active : Bool) (clock o : ℕ) → p ≡ Granted o → asked_now p a active clock ≡ Never → active ≡ false
+now_never : (p : Phase) (a : Option ℕ) (active : Bool) (clock o : ℕ) → p ≡ Granted o → asked_now p a active clock ≡ None → active ≡ false
 now_never Arbitrating a active clock o e f = let z : ◌≡◌ {A = ℕ} 0 1 = cc in absurd (omega arith)
-now_never (Granted p) (At s) active clock o e f = let z : ◌≡◌ {A = ℕ} 0 1 = cc in absurd (omega arith)
-now_never (Granted p) Never true clock o e f = let z : ◌≡◌ {A = ℕ} 0 1 = cc in absurd (omega arith)
-now_never (Granted p) Never false clock o e f = refl
+now_never (Granted p) (Some s) active clock o e f = let z : ◌≡◌ {A = ℕ} 0 1 = cc in absurd (omega arith)
+now_never (Granted p) None true clock o e f = let z : ◌≡◌ {A = ℕ} 0 1 = cc in absurd (omega arith)
+now_never (Granted p) None false clock o e f = refl
 
-now_arbitrating : (p : Phase) (a : Asked) (active : Bool) (clock : ℕ) → p ≡ Arbitrating → asked_now p a active clock ≡ Never
+now_arbitrating : (p : Phase) (a : Option ℕ) (active : Bool) (clock : ℕ) → p ≡ Arbitrating → asked_now p a active clock ≡ None
 now_arbitrating Arbitrating a active clock e = refl
 now_arbitrating (Granted p) a active clock e = let z : ◌≡◌ {A = ℕ} 0 1 = cc in absurd (omega arith)
 
@@ -120,11 +119,11 @@ pub rule_sound : (setup : Setup) → is_framed setup ≡ true → (ch : Channel)
 rule_sound setup framed ch s = set_sound setup framed (clear_marks ch) (clear_settled setup ch s) (clear_marked setup ch)
 
 -- on a sound channel the asked time is already what the rule makes it
-same_asked : (setup : Setup) (ch : Channel) → Sound setup ch → (p : Phase) (a : Asked) → ch.phase ≡ p → ch.asked ≡ a
+same_asked : (setup : Setup) (ch : Channel) → Sound setup ch → (p : Phase) (a : Option ℕ) → ch.phase ≡ p → ch.asked ≡ a
     → asked_now p a (line ch) ch.clock ≡ a
 same_asked setup ch s Arbitrating a e f = sym (s.settled.unasked e) ∙ f
-same_asked setup ch s (Granted o) (At t) e f = refl
-same_asked setup ch s (Granted o) Never e f = rw (s.quiet o e f)
+same_asked setup ch s (Granted o) (Some t) e f = refl
+same_asked setup ch s (Granted o) None e f = rw (s.quiet o e f)
 
 -- nothing is removed where no mark is left
 unmarked : (ch : Channel) → line ch ≡ false → ch.inactive ≡ replicate places false → clear_marks ch ≡ ch
@@ -143,7 +142,7 @@ same_cleared setup ch k s =
 same_set : (setup : Setup) (ch : Channel) → Sound setup ch → set_asked ch ≡ ch
 unfolding set_asked
 same_set setup ch s =
-    ap (λ (a : Asked). changed ch ch.phase a ch.ever ch.clock ch.inactive) (same_asked setup ch s ch.phase ch.asked refl refl)
+    ap (λ (a : Option ℕ). changed ch ch.phase a ch.ever ch.clock ch.inactive) (same_asked setup ch s ch.phase ch.asked refl refl)
 
 -- the line rule changes nothing on a sound channel
 pub rule_same : (setup : Setup) (ch : Channel) → Shaped ch → Sound setup ch → line_rule ch ≡ ch

@@ -8,9 +8,9 @@ use native.Mathlib.Omega.{arith}
 use borrow.Author.Tests.{leb-true, le-leb, eqb-true, eq-eqb, not-true, not-false}
 use lib.Dec.{eqb, leb}
 use lib.ListN.{get_or}
-use Rattle.refusal.specs.Refusal.{is_accepted}
-use Rattle.refusal.specs.declared.Verdict.{Verdict}
-use Rattle.refusal.specs.declared.Verdict.TheVariants.{Accepted, Refused}
+use Rattle.std.specs.Prelude.{Err, None, Ok, Option, Result, Some}
+use Rattle.refusal.specs.declared.Refusal.{Refusal}
+use Rattle.refusal.specs.Refusal.{accepted, is_accepted}
 use Rattle.basics.specs.Limits.{places, system_master, clock_limit}
 use Rattle.basics.proofs.ScanLaws.{all_at, all_intro}
 use Rattle.basics.proofs.Tests.{by_test, need, and_left, and_right, or_cases, or_left, or_right}
@@ -19,8 +19,6 @@ use Rattle.frame.specs.declared.Setup.{Setup}
 use Rattle.frame.specs.Rows.{is_fair, is_present, level_of}
 use Rattle.channel.specs.declared.Phase.{Phase}
 use Rattle.channel.specs.declared.Phase.TheVariants.{Arbitrating, Granted}
-use Rattle.channel.specs.declared.Asked.{Asked}
-use Rattle.channel.specs.declared.Asked.TheVariants.{Never, At}
 use Rattle.channel.specs.declared.Channel.{Channel}
 use Rattle.channel.specs.Channel.{is_arbitrating, has_request, request_of}
 use Rattle.channel.specs.Line.{is_inactive, line}
@@ -66,22 +64,22 @@ pub record Settled (setup : Setup) (ch : Channel) : Type 0 where
   pub never : ch.ever ≡ false → NeverGranted ch
   pub owner : (o : ℕ) → ch.phase ≡ Granted o → Grant setup.levels ch o
   pub request : (l : ℕ) → l < places → has_request ch.left l ≡ true
-      → (is_present setup.levels l ≡ true) × (request_verdict setup l (request_of ch l) ≡ Accepted)
+      → (is_present setup.levels l ≡ true) × (request_verdict setup l (request_of ch l) ≡ accepted)
   pub blank : (l : ℕ) → l < places → has_request ch.left l ≡ false → is_blank (request_of ch l) ≡ true
   pub fair : (l : ℕ) → l < places → is_inactive ch.inactive l ≡ true
       → (is_present setup.levels l ≡ true) × (is_fair (level_of setup.levels l).options ≡ true)
   pub clock : ch.clock ≤ clock_limit
-  pub unasked : ch.phase ≡ Arbitrating → ch.asked ≡ Never
-  pub asked : (o t : ℕ) → ch.phase ≡ Granted o → ch.asked ≡ At t → InTime setup ch o t
+  pub unasked : ch.phase ≡ Arbitrating → ch.asked ≡ None
+  pub asked : (o t : ℕ) → ch.phase ≡ Granted o → ch.asked ≡ Some t → InTime setup ch o t
 
 pub record Sound (setup : Setup) (ch : Channel) : Type 0 where
   pub settled : Settled setup ch
   pub marked : (l : ℕ) → l < places → is_inactive ch.inactive l ≡ true → line ch ≡ true
-  pub quiet : (o : ℕ) → ch.phase ≡ Granted o → ch.asked ≡ Never → line ch ≡ false
+  pub quiet : (o : ℕ) → ch.phase ≡ Granted o → ch.asked ≡ None → line ch ≡ false
 
-pub accepted_is : (v : Verdict) → is_accepted v ≡ true → v ≡ Accepted
-accepted_is Accepted e = refl
-accepted_is (Refused r) e = absurd (false≢true e)
+pub accepted_is : (v : Result Unit Refusal) → is_accepted v ≡ true → v ≡ accepted
+accepted_is (Ok _) e = refl
+accepted_is (Err r) e = absurd (false≢true e)
 
 pub arbitrating_is : (p : Phase) → is_arbitrating p ≡ true → p ≡ Arbitrating
 arbitrating_is Arbitrating e = refl
@@ -145,7 +143,7 @@ module _ (setup : Setup) (ch : Channel) where
 
   -- the requests
   request_is : (l : ℕ) → is_request_sound setup ch l ≡ true → has_request ch.left l ≡ true
-      → (is_present setup.levels l ≡ true) × (request_verdict setup l (request_of ch l) ≡ Accepted)
+      → (is_present setup.levels l ≡ true) × (request_verdict setup l (request_of ch l) ≡ accepted)
   unfolding is_request_sound
   request_is l h e =
       let r = rw (not-true (eqb (get_or ch.left l 0) 0) e) at h in
@@ -195,19 +193,19 @@ module _ (setup : Setup) (ch : Channel) where
   unfolding is_asked_at
   at_by o t i = rw (i.line, le-leb t _ i.past, i.kept)
 
-  asked_by_lem : Sound setup ch → (p : Phase) (a : Asked) → ch.phase ≡ p → ch.asked ≡ a → asked_sound setup ch (line ch) p a ≡ true
-  asked_by_lem s Arbitrating Never e f = refl
-  asked_by_lem s Arbitrating (At t) e f = let n = s.settled.unasked e in let z : ◌≡◌ {A = ℕ} 0 1 = cc in absurd (omega arith)
-  asked_by_lem s (Granted o) Never e f = rw (s.quiet o e f)
-  asked_by_lem s (Granted o) (At t) e f = at_by o t (s.settled.asked o t e f)
+  asked_by_lem : Sound setup ch → (p : Phase) (a : Option ℕ) → ch.phase ≡ p → ch.asked ≡ a → asked_sound setup ch (line ch) p a ≡ true
+  asked_by_lem s Arbitrating None e f = refl
+  asked_by_lem s Arbitrating (Some t) e f = let n = s.settled.unasked e in let z : ◌≡◌ {A = ℕ} 0 1 = cc in absurd (omega arith)
+  asked_by_lem s (Granted o) None e f = rw (s.quiet o e f)
+  asked_by_lem s (Granted o) (Some t) e f = at_by o t (s.settled.asked o t e f)
 
-  asked_is : (p : Phase) (a : Asked) → is_asked_sound setup ch (line ch) ≡ true → ch.phase ≡ p → ch.asked ≡ a → asked_sound setup ch (line ch) p a ≡ true
+  asked_is : (p : Phase) (a : Option ℕ) → is_asked_sound setup ch (line ch) ≡ true → ch.phase ≡ p → ch.asked ≡ a → asked_sound setup ch (line ch) p a ≡ true
   unfolding is_asked_sound
   asked_is p a h e f = sym (ap₂ (asked_sound setup ch (line ch)) e f) ∙ h
 
-  unasked_is : (a : Asked) → asked_sound setup ch (line ch) Arbitrating a ≡ true → a ≡ Never
-  unasked_is Never h = refl
-  unasked_is (At t) h = absurd (false≢true h)
+  unasked_is : (a : Option ℕ) → asked_sound setup ch (line ch) Arbitrating a ≡ true → a ≡ None
+  unasked_is None h = refl
+  unasked_is (Some t) h = absurd (false≢true h)
 
   pub sound_is : is_sound setup ch ≡ true → Sound setup ch
   unfolding is_sound are_requests_sound
@@ -228,10 +226,10 @@ module _ (setup : Setup) (ch : Channel) where
               fair = λ l k e. let m = mark_at marks l k e in (m.0, m.1);
               clock = leb-true ch.clock clock_limit clock;
               unasked = λ e. unasked_is ch.asked (asked_is Arbitrating ch.asked asked e refl);
-              asked = λ o t e f. at_is o t (asked_is (Granted o) (At t) asked e f);
+              asked = λ o t e f. at_is o t (asked_is (Granted o) (Some t) asked e f);
             };
         marked = λ l k e. (mark_at marks l k e).2;
-        quiet = λ o e f. not-true (line ch) (asked_is (Granted o) Never asked e f);
+        quiet = λ o e f. not-true (line ch) (asked_is (Granted o) None asked e f);
       }
 
   pub sound_by : Sound setup ch → is_sound setup ch ≡ true

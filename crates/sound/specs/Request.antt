@@ -1,8 +1,7 @@
 -- What a request, or what is left of one, meets: refusals 3, 4 and 5; and how long its transfers take.
-use Rattle.std.specs.Prelude.{ℕ, ◌+◌, Bool, not, ◌&&◌, [], ◌∷◌, leb, ltb}
-use Rattle.refusal.specs.Refusal.{refused_by}
-use Rattle.refusal.specs.declared.Verdict.{Verdict}
-use Rattle.refusal.specs.declared.Verdict.TheVariants.{Accepted}
+use Rattle.refusal.specs.declared.Refusal.{Refusal}
+use Rattle.std.specs.Prelude.{ℕ, ◌+◌, Bool, not, ◌&&◌, [], ◌∷◌, leb, ltb, Result}
+use Rattle.refusal.specs.Refusal.{accepted, refused_by}
 use Rattle.cycle.specs.Cycle.{is_length}
 use Rattle.frame.specs.declared.Setup.{Setup}
 use Rattle.frame.specs.Rows.{is_slave}
@@ -23,9 +22,9 @@ abbrev pub is_outside_master : Setup → Request → Bool
 is_outside_master setup q = ltb setup.master (q.offset + q.left)
 
 -- the first of them that a level's request meets
-unfoldable pub request_verdict : Setup → ℕ → Request → Verdict
+unfoldable pub request_verdict : Setup → ℕ → Request → Result Unit Refusal
 request_verdict setup l q =
-    refused_by ((3, not (is_in_range q)) ∷ (4, not (is_inside_slave setup q)) ∷ (5, is_outside_master setup q) ∷ []) Accepted
+    refused_by ((3, not (is_in_range q)) ∷ (4, not (is_inside_slave setup q)) ∷ (5, is_outside_master setup q) ∷ []) accepted
 
 -- the time of the transfer of a level that holds the next byte of a request: the running or next one
 unfoldable pub transfer_of : Setup → ℕ → Request → ℕ

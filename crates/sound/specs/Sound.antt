@@ -1,20 +1,17 @@
 -- Document 01, "Unsound": a definition for each clause, in its order, after the one that document 02 added. Each is true where the clause does not hold; a
 -- channel is sound where all are.
-use Rattle.std.specs.Prelude.{ℕ, Bool, true, false, cond, not, ◌&&◌, ◌||◌, List, eqb, leb}
+use Rattle.std.specs.Prelude.{ℕ, Bool, true, false, cond, not, ◌&&◌, ◌||◌, List, eqb, leb, None, Option, Some}
 use Rattle.refusal.specs.Refusal.{is_accepted}
 use Rattle.basics.specs.Limits.{places, system_master, clock_limit}
 use Rattle.basics.specs.Scan.{all_below}
 use Rattle.frame.specs.declared.LevelRows.{LevelRows}
 use Rattle.frame.specs.declared.Setup.{Setup}
-use Rattle.frame.specs.declared.FramedStore.{FramedStore}
 use Rattle.frame.specs.Frame.{is_framed}
 use Rattle.frame.specs.Find.{store_if}
 use Rattle.frame.specs.Rows.{is_fair, is_present, level_of}
 use Rattle.frame.specs.Allowance.{allowance_of, is_within}
 use Rattle.channel.specs.declared.Phase.{Phase}
 use Rattle.channel.specs.declared.Phase.TheVariants.{Arbitrating, Granted}
-use Rattle.channel.specs.declared.Asked.{Asked}
-use Rattle.channel.specs.declared.Asked.TheVariants.{Never, At}
 use Rattle.channel.specs.declared.Channel.{Channel}
 use Rattle.channel.specs.declared.Request.{Request}
 use Rattle.channel.specs.Channel.{is_arbitrating, has_request, request_of}
@@ -78,11 +75,11 @@ unfoldable pub is_asked_at : Setup → Channel → Bool → ℕ → ℕ → Bool
 is_asked_at setup ch active owner t = active && (leb t ch.clock && is_in_time setup owner (request_of ch owner) ch.clock t)
 
 -- "an asked time while arbitrating; while granted .. none with one"
-abbrev pub asked_sound : Setup → Channel → Bool → Phase → Asked → Bool
-asked_sound setup ch active Arbitrating Never = true
-asked_sound setup ch active Arbitrating (At t) = false
-asked_sound setup ch active (Granted owner) Never = not active
-asked_sound setup ch active (Granted owner) (At t) = is_asked_at setup ch active owner t
+abbrev pub asked_sound : Setup → Channel → Bool → Phase → Option ℕ → Bool
+asked_sound setup ch active Arbitrating None = true
+asked_sound setup ch active Arbitrating (Some t) = false
+asked_sound setup ch active (Granted owner) None = not active
+asked_sound setup ch active (Granted owner) (Some t) = is_asked_at setup ch active owner t
 
 unfoldable pub is_asked_sound : Setup → Channel → Bool → Bool
 is_asked_sound setup ch active = asked_sound setup ch active ch.phase ch.asked
@@ -98,5 +95,5 @@ is_sound setup ch =
     && is_asked_sound setup ch (line ch)))))
 
 -- "the slave store, as long as all rows together": its length, of a set-up that keeps the frame and a channel that is sound, which meet no 9
-unfoldable pub sound_store : Setup → Channel → FramedStore
+unfoldable pub sound_store : Setup → Channel → Option ℕ
 sound_store setup ch = store_if (is_framed setup && is_sound setup ch) setup.slaves

@@ -5,7 +5,7 @@ use mathlib.Core.Bool.{true, false}
 use native.Mathlib.Omega.{arith}
 use borrow.Author.Tests.{eq-eqb, ne_eqb, not-true, not-false}
 use lib.Dec.{eqb}
-use Rattle.channel.specs.declared.Asked.{Asked}
+use Rattle.std.specs.Prelude.{Option}
 use Rattle.channel.specs.declared.Request.{Request}
 use Rattle.channel.specs.Channel.{no_request}
 use Rattle.frame.specs.Rows.{has_burst}
@@ -14,7 +14,7 @@ use Rattle.act.specs.declared.Ending.TheVariants.{Kept}
 use Rattle.act.specs.Cycle.{cycle_bytes, rest_after, cycle_of, is_late, is_leaving, released_by, ending_of, next_time}
 use Rattle.step.specs.inner.Machine.{is_inside, leaves_at, after_cycle}
 
-module _ (route : Route) (asked : Asked) (clock : ℕ) (rest : Request) (some : 0 < rest.left) where
+module _ (route : Route) (asked : Option ℕ) (clock : ℕ) (rest : Request) (some : 0 < rest.left) where
   open_rest : eqb rest.left 0 ≡ false
   open_rest = ne_eqb rest.left 0 (λ e. omega (arith, e, some))
 
@@ -32,7 +32,7 @@ module _ (route : Route) (asked : Asked) (clock : ℕ) (rest : Request) (some : 
     unfolding leaves_at is_leaving
     leaves_late e = rw (open_rest, not-false (eqb (rest.address % route.width) 0) end, e)
 
-module _ (route : Route) (asked : Asked) (clock : ℕ) (q : Request) (n : ℕ) (bytes : n ≡ cycle_bytes route q) where
+module _ (route : Route) (asked : Option ℕ) (clock : ℕ) (q : Request) (n : ℕ) (bytes : n ≡ cycle_bytes route q) where
   -- a request that is done
   pub after_done : n ≡ q.left → record { rest = no_request; ending = released_by route.options asked clock } ≡ after_cycle route asked clock q
   unfolding after_cycle cycle_of rest_after ending_of is_leaving

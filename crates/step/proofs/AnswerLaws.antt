@@ -1,13 +1,14 @@
 -- No two plans share their numbers, and no two answers. Assumes nothing.
 use mathlib.Core.Path.{◌≡◌, refl, sym, ap}
 use lib.ListN.{drop}
+use Rattle.std.specs.Prelude.{Err, Ok, Result}
+use Rattle.act.specs.declared.Entry.{Entry}
+use Rattle.refusal.specs.declared.Refusal.{Refusal}
 use Rattle.basics.proofs.SameLaws.{at, apart}
 use Rattle.refusal.proofs.NumberLaws.{one_number, not_zero}
 use Rattle.act.proofs.EntryLaws.{one_entry}
 use Rattle.step.specs.declared.Plan.{Plan}
 use Rattle.step.specs.declared.Plan.TheVariants.{Idle, Refused, Grant, Leave, Cycle}
-use Rattle.step.specs.declared.StepAnswer.{StepAnswer}
-use Rattle.step.specs.declared.StepAnswer.TheVariants.{Done, Refused as NotDone}
 use Rattle.step.specs.Step.{plan_numbers, step_numbers}
 
 pub one_plan : (a b : Plan) → plan_numbers a ≡ plan_numbers b → a ≡ b
@@ -37,8 +38,8 @@ one_plan (Cycle p) (Grant w) e = apart (at 1 e) refl
 one_plan (Cycle p) (Leave o) e = apart (at 1 e) refl
 one_plan (Cycle p) (Cycle o) e = ap Cycle (at 2 e)
 
-pub one_answer : (a b : StepAnswer) → step_numbers a ≡ step_numbers b → a ≡ b
-one_answer (Done x) (Done y) e = ap Done (one_entry x y (ap (drop 1) e))
-one_answer (Done x) (NotDone b) e = absurd (not_zero b (sym (at 0 e)))
-one_answer (NotDone a) (Done y) e = absurd (not_zero a (at 0 e))
-one_answer (NotDone a) (NotDone b) e = ap NotDone (one_number a b (at 0 e))
+pub one_answer : (a b : Result Entry Refusal) → step_numbers a ≡ step_numbers b → a ≡ b
+one_answer (Ok x) (Ok y) e = ap Ok (one_entry x y (ap (drop 1) e))
+one_answer (Ok x) (Err b) e = absurd (not_zero b (sym (at 0 e)))
+one_answer (Err a) (Ok y) e = absurd (not_zero a (at 0 e))
+one_answer (Err a) (Err b) e = ap Err (one_number a b (at 0 e))

@@ -1,14 +1,15 @@
 -- The bytes of a cycle: how many, how long the next transfer takes, and a few stored one by one.
 use Prim.Native.Nat.{ℕ, ◌+◌, ◌*◌, ◌/◌, ◌%◌, ◌≤◌, ◌<◌, min}
-use mathlib.Core.Path.{◌≡◌, refl, sym, ap, ◌∙◌}
+use mathlib.Core.Path.{◌≡◌, refl, subst, ◌∙◌}
 use mathlib.Core.Bool.{true, ◌&&◌}
 use mathlib.Core.List.{List}
-use native.Mathlib.Nat.{add-zero}
+use native.Mathlib.Nat.{zero-add}
 use native.Mathlib.Omega.{arith}
 use lib.ListN.{length, get_or, set}
 use lib.Dec.{eqb, leb}
-use lib.Seq.{paste, paste-zero, paste-suc}
+use lib.Seq.{paste}
 use borrow.Author.Tests.{eqb-true, leb-true}
+use Rattle.std.proofs.lemmas.List.Edits.{paste_more}
 use Rattle.basics.proofs.Tests.{and_left, and_right}
 use Rattle.cycle.specs.Cycle.{is_width, is_port, narrower_of, cycle_length, tabled_length, transfer_length, count_of, transfer_time}
 use Rattle.cycle.proofs.Widths.{Pair, two_one, two_two, four_one, four_two, four_four, paired}
@@ -97,22 +98,8 @@ module _ (route : Route) (rest : Request) (w : is_width route.width ≡ true) (p
   unfolding next_time transfer_time
   time_one e m = rw (e, m, next_one route.width rest.address rest.left (of_pair 1 e) aligned some)
 
--- bytes stored one by one
-module _ (d : List ℕ) (at : ℕ) (s : List ℕ) where
-  pub paste_one : at + 1 ≤ length d → 1 ≤ length s → set d at (get_or s 0 0) ≡ paste d at s 1
-  paste_one h k =
-      ap (λ (x : List ℕ). set x at (get_or s 0 0)) (paste-zero d at s)
-      ∙ ap (λ (i : ℕ). set (paste d at s 0) i (get_or s 0 0)) (sym (add-zero at))
-      ∙ paste-suc d at s 0 0 (omega (arith, h)) (omega (arith, k))
-
-  pub paste_two : at + 2 ≤ length d → 2 ≤ length s → set (set d at (get_or s 0 0)) (at + 1) (get_or s 1 0) ≡ paste d at s 2
-  paste_two h k =
-      ap (λ (x : List ℕ). set x (at + 1) (get_or s 1 0)) (paste_one (omega (arith, h)) (omega (arith, k)))
-      ∙ paste-suc d at s 1 0 (omega (arith, h)) (omega (arith, k))
-
-  pub paste_four : at + 4 ≤ length d → 4 ≤ length s
-      → set (set (set (set d at (get_or s 0 0)) (at + 1) (get_or s 1 0)) (at + 2) (get_or s 2 0)) (at + 3) (get_or s 3 0) ≡ paste d at s 4
-  paste_four h k =
-      ap (λ (x : List ℕ). set (set x (at + 2) (get_or s 2 0)) (at + 3) (get_or s 3 0)) (paste_two (omega (arith, h)) (omega (arith, k)))
-      ∙ ap (λ (x : List ℕ). set x (at + 3) (get_or s 3 0)) (paste-suc d at s 2 0 (omega (arith, h)) (omega (arith, k)))
-      ∙ paste-suc d at s 3 0 (omega (arith, h)) (omega (arith, k))
+-- one byte more of those that are loaded
+pub load_more : (d s : List ℕ) (i : ℕ) → i < length d → i < length s → set (paste d 0 s i) i (get_or s i 0) ≡ paste d 0 s (i + 1)
+load_more d s i h k =
+    subst (λ (j : ℕ). set (paste d 0 s i) j (get_or s i 0) ≡ paste d 0 s (i + 1)) (zero-add i)
+    (paste_more d 0 s i 0 (omega (arith, h)) k)

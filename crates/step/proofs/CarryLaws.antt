@@ -8,10 +8,9 @@ use borrow.Author.Tests.{leb-true, lt-leb}
 use lib.Dec.{leb}
 use lib.ListN.{length, drop}
 use lib.Seq.{paste-zero}
-use Rattle.basics.proofs.Tests.{and_left, and_right, less_leb}
+use Rattle.std.specs.Prelude.{Err, Ok, Result}
 use Rattle.refusal.specs.declared.Refusal.{Refusal}
-use Rattle.refusal.specs.declared.Verdict.{Verdict}
-use Rattle.refusal.specs.declared.Verdict.TheVariants.{Accepted, Refused as NotReady}
+use Rattle.basics.proofs.Tests.{and_left, and_right, less_leb}
 use Rattle.frame.specs.declared.Setup.{Setup}
 use Rattle.channel.specs.declared.Channel.{Channel}
 use Rattle.channel.specs.Channel.{request_of}
@@ -21,22 +20,7 @@ use Rattle.step.specs.declared.Carry.{Carry}
 use Rattle.step.specs.declared.Plan.{Plan}
 use Rattle.step.specs.declared.Plan.TheVariants.{Idle, Refused, Grant, Leave, Cycle}
 use Rattle.step.specs.Plan.{act_plan, ready_verdict, plan_by, plan_of}
-use Rattle.step.specs.Step.{
-  Ready,
-  Room,
-  carry_fits,
-  no_carry,
-  carry_by,
-  step_of,
-  moved_slave,
-  moved_master,
-  slave_by,
-  master_by,
-  slave_after,
-  master_after,
-  decision_of,
-}
-use Rattle.step.specs.inner.Machine.{decision_by, refused_decision}
+use Rattle.step.specs.Step.{Ready, Room, carry_fits, no_carry, carry_by, moved_slave, moved_master, slave_by, master_by, slave_after, master_after, decision_of}
 use Rattle.step.proofs.PlanLaws.{planned_roomy, ready_is, carry_room}
 
 module _ (c : Carry) (s m : ℕ) where
@@ -87,33 +71,29 @@ module _ (setup : Setup) (ch : Channel) (slave master : List ℕ) where
   pub act_room : Ready setup ch (length slave) (length master) → Room (carry_by setup ch (act_plan setup ch)) (length slave) (length master)
   act_room r = by_plan r (act_plan setup ch) refl
 
-  by_verdict : (v : Verdict) → ready_verdict setup ch (length slave) (length master) ≡ v
+  by_verdict : (v : Result Unit Refusal) → ready_verdict setup ch (length slave) (length master) ≡ v
       → Room (carry_by setup ch (plan_by setup ch v)) (length slave) (length master)
-  by_verdict Accepted e = act_room (ready_is setup ch (length slave) (length master) e)
-  by_verdict (NotReady why) e = nothing
+  by_verdict (Ok _) e = act_room (ready_is setup ch (length slave) (length master) e)
+  by_verdict (Err why) e = nothing
 
   -- and has room in them
+  abbrev planned : Carry
+  planned = carry_by setup ch (plan_by setup ch (ready_verdict setup ch (length slave) (length master)))
+
+  pub plan_room : Room planned (length slave) (length master)
+  plan_room = by_verdict (ready_verdict setup ch (length slave) (length master)) refl
+
   pub decided_room : (t : Tally) → Room (decision_of setup ch t slave master).carry (length slave) (length master)
   unfolding decision_of plan_of
-  decided_room t = by_verdict (ready_verdict setup ch (length slave) (length master)) refl
+  decided_room t = plan_room
+
+  pub plan_stores : (moved_slave planned slave master ≡ slave_after setup ch slave master)
+      × (moved_master planned slave master ≡ master_after setup ch slave master)
+  unfolding slave_after master_after plan_of
+  plan_stores = carried (plan_by setup ch (ready_verdict setup ch (length slave) (length master)))
 
   pub decided_stores : (t : Tally) → (moved_slave (decision_of setup ch t slave master).carry slave master
       ≡ slave_after setup ch slave master)
       × (moved_master (decision_of setup ch t slave master).carry slave master ≡ master_after setup ch slave master)
-  unfolding decision_of slave_after master_after
-  decided_stores t = carried (plan_of setup ch (length slave) (length master))
-
-  pub decided_step : (t : Tally) → (decision_of setup ch t slave master).stepped ≡ step_of setup ch t slave master
-  unfolding decision_of
-  decided_step t = refl
-
-  -- the decision, refused or not
-  pub refused_decision_lem : (t : Tally) (why : Refusal) → ready_verdict setup ch (length slave) (length master) ≡ NotReady why
-      → refused_decision ch t why ≡ decision_of setup ch t slave master
-  unfolding decision_of step_of plan_of
-  refused_decision_lem t why e = rw e
-
-  pub ready_decision : (t : Tally) → ready_verdict setup ch (length slave) (length master) ≡ Accepted
-      → decision_by setup ch t (act_plan setup ch) ≡ decision_of setup ch t slave master
-  unfolding decision_of step_of plan_of
-  ready_decision t e = rw e
+  unfolding decision_of plan_of
+  decided_stores t = plan_stores

@@ -1,18 +1,18 @@
 -- All that the laws of a step know of a cycle: the bytes that it moves, what it leaves of the request, and the time of its transfer.
 use Prim.Native.Nat.{ℕ, ◌+◌, ◌-◌, ◌≤◌, ◌<◌}
-use mathlib.Core.Path.{◌≡◌, refl, sym, ap, ap₂, ◌∙◌}
+use mathlib.Core.Path.{◌≡◌, refl, sym, ap, ◌∙◌}
 use mathlib.Core.Bool.{true, false, cond, false≢true}
 use native.Mathlib.Nat.{add-zero}
 use native.Mathlib.Omega.{arith}
 use borrow.Author.Tests.{eqb-true, eqb-false}
 use lib.Dec.{eqb}
+use Rattle.std.specs.Prelude.{Some}
 use Rattle.basics.proofs.Tests.{by_test}
 use Rattle.cycle.specs.Cycle.{is_width, is_port, narrower_of, is_transfer_end, transfer_time}
 use Rattle.cycle.proofs.CountLaws.{length_some}
 use Rattle.cycle.proofs.Widths.{port_some, width_some}
 use Rattle.cycle.proofs.TransferLaws.{time_left, time_ended}
 use Rattle.frame.specs.declared.Setup.{Setup}
-use Rattle.frame.specs.declared.FoundSlave.TheVariants.{Row as Slave}
 use Rattle.frame.specs.Frame.{is_framed}
 use Rattle.frame.proofs.FrameLaws.{framed_slaves, level_facts_of}
 use Rattle.frame.proofs.SlaveLaws.{found_part}
@@ -120,13 +120,13 @@ module _ (setup : Setup) (framed : is_framed setup ≡ true) {k : ℕ} (q : Requ
     (leaves : Leaves q c) where
   -- what is left lies in the same row
   further_found : (n : ℕ) → n < q.left
-      → slave_for setup.slaves (further q n) ≡ Slave (slave_of setup.slaves q) (start_of setup.slaves q)
+      → slave_for setup.slaves (further q n) ≡ Some (slave_of setup.slaves q, start_of setup.slaves q)
   further_found n h =
       found_part setup.slaves (framed_slaves setup framed) q.space q.address q.left (q.address + n) (q.left - n) _ _
       fits.found
       (omega arith) (omega arith) (omega arith)
 
-  rest_found : 0 < c.rest.left → slave_for setup.slaves c.rest ≡ Slave (slave_of setup.slaves q) (start_of setup.slaves q)
+  rest_found : 0 < c.rest.left → slave_for setup.slaves c.rest ≡ Some (slave_of setup.slaves q, start_of setup.slaves q)
   rest_found h =
       ap (slave_for setup.slaves) (leaves.onward h) ∙ further_found c.bytes (omega (arith, leaves.left))
 
@@ -152,7 +152,7 @@ module _ (setup : Setup) (framed : is_framed setup ≡ true) {k : ℕ} (q : Requ
         most = omega (arith, leaves.left, fits.most);
         direction = rw e fits.direction;
         space = rw e fits.space;
-        found = rest_found h ∙ sym (ap₂ Slave (rest_slave h) (rest_start h));
+        found = rest_found h ∙ sym (λ i. Some (rest_slave h i, rest_start h i));
         master = rw e (omega (arith, leaves.most, fits.master));
       }
 

@@ -8,12 +8,12 @@ use borrow.Author.Tests.{ne_eqb}
 use lib.ListN.{length, get_or, set}
 use lib.Seq.{set-set}
 use lib.Dec.{eqb, ltb}
+use Rattle.std.specs.Prelude.{None}
 use Rattle.basics.specs.Limits.{places, clock_limit}
 use Rattle.basics.proofs.Tests.{by_test}
 use Rattle.frame.specs.declared.Setup.{Setup}
 use Rattle.channel.specs.declared.Phase.{Phase}
 use Rattle.channel.specs.declared.Phase.TheVariants.{Arbitrating, Granted}
-use Rattle.channel.specs.declared.Asked.TheVariants.{Never}
 use Rattle.channel.specs.declared.Channel.{Channel}
 use Rattle.channel.specs.declared.Request.{Request}
 use Rattle.channel.specs.Channel.{owner_place, has_request, request_of, with_request, changed, Shaped}
@@ -61,14 +61,14 @@ module _ (route : Route) (w : Running) (o : ℕ) (phase : w.channel.phase ≡ Gr
       ap
       (λ (ever : Bool).
       with_request
-      (changed w.channel (cond (is_kept ends) w.channel.phase Arbitrating) (cond (is_kept ends) w.channel.asked Never)
+      (changed w.channel (cond (is_kept ends) w.channel.phase Arbitrating) (cond (is_kept ends) w.channel.asked None)
       ever (w.channel.clock + route.time) (set w.channel.inactive o (is_marked ends)))
       (owner_place w.channel.phase) (cycle_of route q).rest)
       (sym before)
       ∙ ap
       (λ (i : ℕ).
       with_request
-      (changed w.channel (cond (is_kept ends) w.channel.phase Arbitrating) (cond (is_kept ends) w.channel.asked Never)
+      (changed w.channel (cond (is_kept ends) w.channel.phase Arbitrating) (cond (is_kept ends) w.channel.asked None)
       w.channel.ever (w.channel.clock + route.time) (set w.channel.inactive o (is_marked ends)))
       i (cycle_of route q).rest)
       (ap owner_place phase)
@@ -161,11 +161,11 @@ module _ (setup : Setup) (budget : ℕ) (ch : Channel) (shaped : Shaped ch) (o :
         ≡ after_held ch o (held_of (filled t) slave master)
     unfolding filled
     full_is full =
-        let x = decides_late route (standing_of (moved_to t) t.tally) (moved_to t).ever request (moved_to t).left (moved_to t).inactive o
+        let x = decides_late route (standing_of (moved_to t) t.tally) (moved_to t).ever request (moved_to t) o
         (to_phase t).0 request_some _
         (limit ∙ full) refl in
-        sym (stays_full route (midst t slave master) (full_acted (standing_of (moved_to t) t.tally)) (moved_to t).inactive x.0
-        x.1 refl refl)
+        sym (stays_full route (midst t slave master) (full_acted (standing_of (moved_to t) t.tally)) x.0
+        (sym (ap (λ (y : Channel). y.inactive) x.1)) refl)
 
     cycle_is : ltb clock_limit (t.clock + route.time) ≡ false
         → step_run route (midst t slave master)
@@ -174,12 +174,13 @@ module _ (setup : Setup) (budget : ℕ) (ch : Channel) (shaped : Shaped ch) (o :
         (moved_master (carry_of route t.request) slave master))
     unfolding step_run cycle_on
     cycle_is room =
-        let x = decides_cycle route (standing_of (moved_to t) t.tally) (moved_to t).ever request (moved_to t).left (moved_to t).inactive o
+        let x = decides_cycle route (standing_of (moved_to t) t.tally) (moved_to t).ever request (moved_to t) o
         (to_phase t).0 request_some _ _
         (limit ∙ room) refl refl in
         let run = cycle_run route (midst t slave master) o (to_phase t).0 granted_yet active t.request in
         let once = moved_twice ch o t.clock ((moved_to t).clock + route.time) t.request (cycle_of route t.request).rest in
-        rw (← x.0, ← x.1, here_request t, run, once, (to_phase t).1, (to_phase t).2)
+        let marks = ap (λ (y : Channel). y.inactive) x.1 in
+        rw (← x.0, ← marks, here_request t, run, once, (to_phase t).1, (to_phase t).2)
 
   -- where the owner keeps the channel, nothing else of it has changed
   kept_midst : (t : Tenure) (slave master : List ℕ) → t.ending ≡ Kept → t.full ≡ false → after_held ch o (held_of t slave master)

@@ -6,11 +6,11 @@ use mathlib.Core.Logic.{◌⊎◌, ⊎_elim}
 use mathlib.Core.List.{List}
 use native.Mathlib.Nat.{sub-zero}
 use native.Mathlib.Omega.{arith}
-use borrow.Author.Tests.{ltb-false, leb-true, leb-false, not-true}
+use borrow.Author.Tests.{ltb-true, ltb-false, leb-true, leb-false, not-true}
 use lib.ListN.{length, get_or}
 use lib.Dec.{eqb, leb, ltb}
 use Rattle.basics.specs.Limits.{places, system_master, steps_most}
-use Rattle.basics.proofs.Tests.{by_test}
+use Rattle.basics.proofs.Tests.{by_test, and_left, and_right}
 use Rattle.frame.specs.declared.Setup.{Setup}
 use Rattle.channel.specs.declared.Phase.{Phase}
 use Rattle.channel.specs.declared.Phase.TheVariants.{Arbitrating, Granted}
@@ -150,6 +150,11 @@ module _ (setup : Setup) (budget : ℕ) (routes : List Route) (w : Running) (g :
             };
       }
 
+-- what the loop's test says
+pub goes_on : (done budget : ℕ) (full : Bool) → (ltb done budget && not full) ≡ true → (done < budget) × (full ≡ false)
+goes_on done budget full e =
+    (ltb-true done budget (and_left (ltb done budget) (not full) e), not-true full (and_right (ltb done budget) (not full) e))
+
 -- each turn brings the end nearer
 abbrev pub nearness : ℕ → Bool → ℕ → ℕ
 nearness budget full done = cond full 0 (suc (budget - done))
@@ -164,10 +169,10 @@ nearer budget done later full now e h m =
     m)
 
 -- the owner has a request or is 15, so that no search begins above it
-pub start_lows : (setup : Setup) (ch : Channel) (s m base : ℕ) → Ready setup ch s m → base ≤ system_master → NoneAsk ch.left base
+pub start_lows : (setup : Setup) (ch : Channel) (s m base : ℕ) → Ready setup ch s m → (base ≤ system_master) × NoneAsk ch.left base
     → Lows base base ch
 unfolding waits
-start_lows setup ch s m base r most none =
+start_lows setup ch s m base r (most, none) =
     record {
       most = most;
       small = omega (arith, most);

@@ -6,11 +6,10 @@ use mathlib.Core.List.{List}
 use native.Mathlib.Omega.{arith}
 use borrow.Author.Tests.{lt-ltb, le-ltb, eqb-true, eqb-false}
 use lib.Dec.{eqb}
+use Rattle.std.specs.Prelude.{None, Option, Some}
 use Rattle.basics.specs.Limits.{clock_limit}
 use Rattle.basics.proofs.Tests.{by_test}
 use Rattle.frame.specs.Rows.{is_fair}
-use Rattle.channel.specs.declared.Asked.{Asked}
-use Rattle.channel.specs.declared.Asked.TheVariants.{Never, At}
 use Rattle.channel.specs.declared.Request.{Request}
 use Rattle.act.specs.declared.Route.{Route}
 use Rattle.act.specs.declared.Ending.{Ending}
@@ -21,7 +20,7 @@ use Rattle.step.specs.declared.turns.Tenure.{Tenure}
 use Rattle.step.specs.inner.Turns.{held_of, held, cycle_on, filled}
 use Rattle.step.proofs.CycleFacts.{Leaves, leaves}
 
-module _ (route : Route) (asked : Asked) (budget : ℕ) (t : Tenure) (slave master : List ℕ) (h : t.done < budget) where
+module _ (route : Route) (asked : Option ℕ) (budget : ℕ) (t : Tenure) (slave master : List ℕ) (h : t.done < budget) where
   left_one : budget - t.done ≡ suc (budget - (t.done + 1))
   left_one = omega arith
 
@@ -45,9 +44,9 @@ module _ (route : Route) (asked : Asked) (budget : ℕ) (t : Tenure) (slave mast
     held_on e = rw (left_one, le-ltb clock_limit (t.clock + route.time) room, e)
 
 -- an owner that keeps the channel has something left
-not_kept : (options : ℕ) (asked : Asked) (clock : ℕ) → is_kept (released_by options asked clock) ≡ false
-not_kept options Never clock = refl
-not_kept options (At t) clock = by_test (is_fair options) (λ f. rw f) (λ n. rw n)
+not_kept : (options : ℕ) (asked : Option ℕ) (clock : ℕ) → is_kept (released_by options asked clock) ≡ false
+not_kept options None clock = refl
+not_kept options (Some t) clock = by_test (is_fair options) (λ f. rw f) (λ n. rw n)
 
 pub kept_is : (ending : Ending) → is_kept ending ≡ true → ending ≡ Kept
 kept_is Kept e = refl
@@ -58,7 +57,7 @@ module _ (route : Route) (q : Request) (way : Way route q) where
   moves : Leaves q (cycle_of route q)
   moves = leaves route q way.width way.port way.some
 
-  pub kept_some : (asked : Asked) (clock : ℕ) → is_kept (ending_of route asked clock (cycle_of route q)) ≡ true → 0 < (cycle_of route q).rest.left
+  pub kept_some : (asked : Option ℕ) (clock : ℕ) → is_kept (ending_of route asked clock (cycle_of route q)) ≡ true → 0 < (cycle_of route q).rest.left
   unfolding ending_of is_leaving
   kept_some asked clock e =
       by_test (eqb (cycle_of route q).rest.left 0)
@@ -87,13 +86,13 @@ module _ (route : Route) (q : Request) (way : Way route q) where
         master = rw e (omega (arith, n, r.master));
       }
 
-pub cycled_facts : (route : Route) (asked : Asked) (t : Tenure)
+pub cycled_facts : (route : Route) (asked : Option ℕ) (t : Tenure)
     → ((cycle_on route asked t).clock ≡ t.clock + route.time) × ((cycle_on route asked t).done ≡ t.done + 1) ×
     ((cycle_on route asked t).request ≡ (cycle_of route t.request).rest)
     × ((cycle_on route asked t).ending ≡ ending_of route asked (t.clock + route.time) (cycle_of route t.request))
 unfolding cycle_on
 cycled_facts route asked t = (refl, refl, refl, refl)
 
-pub cycled_going : (route : Route) (asked : Asked) (t : Tenure) → (cycle_on route asked t).full ≡ false
+pub cycled_going : (route : Route) (asked : Option ℕ) (t : Tenure) → (cycle_on route asked t).full ≡ false
 unfolding cycle_on
 cycled_going route asked t = refl

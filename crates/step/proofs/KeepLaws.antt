@@ -9,17 +9,16 @@ use borrow.Author.Tests.{leb-true, le-leb, eqb-true, eqb-false, not-true, not-fa
 use lib.Dec.{eqb}
 use lib.ListN.{length, length-set}
 use lib.Seq.{get_or-set_other}
+use Rattle.std.specs.Prelude.{None, Option, Some}
+use Rattle.refusal.specs.Refusal.{accepted}
 use Rattle.basics.specs.Limits.{places, system_master, clock_limit}
 use Rattle.basics.proofs.ScanLaws.{any_ext}
 use Rattle.basics.proofs.Tests.{by_test, or_none}
 use Rattle.frame.specs.Frame.{is_framed}
 use Rattle.frame.specs.declared.Setup.{Setup}
-use Rattle.refusal.specs.declared.Verdict.TheVariants.{Accepted}
 use Rattle.frame.proofs.FrameLaws.{framed_levels, fifteen_present}
 use Rattle.channel.specs.declared.Phase.{Phase}
 use Rattle.channel.specs.declared.Phase.TheVariants.{Arbitrating, Granted}
-use Rattle.channel.specs.declared.Asked.{Asked}
-use Rattle.channel.specs.declared.Asked.TheVariants.{Never, At}
 use Rattle.channel.specs.declared.Channel.{Channel}
 use Rattle.channel.specs.declared.Request.{Request}
 use Rattle.channel.specs.Channel.{owner_of, has_request, request_of, no_request, with_request, Shaped}
@@ -209,7 +208,7 @@ module _ (setup : Setup) (framed : is_framed setup ≡ true) (ch : Channel) (sha
   positive n e = omega (arith, eqb-false n 0 e)
 
   moved_request : (m : ℕ) → m < places → has_request (moved_at setup ch o).left m ≡ true
-      → (is_present setup.levels m ≡ true) × (request_verdict setup m (request_of (moved_at setup ch o) m) ≡ Accepted)
+      → (is_present setup.levels m ≡ true) × (request_verdict setup m (request_of (moved_at setup ch o) m) ≡ accepted)
   moved_request m k h =
       by_test (eqb m o)
       (λ b.
@@ -265,17 +264,17 @@ module _ (setup : Setup) (framed : is_framed setup ≡ true) (ch : Channel) (sha
       let d = rw e at takes.transfer in
       le-leb _ (t + allowance_of setup) (omega (arith, k, d))
 
-  end_within : (t : ℕ) → ch.asked ≡ At t → leaves_at setup ch o ≡ false → (next_cycle setup ch o).ends ≡ true
+  end_within : (t : ℕ) → ch.asked ≡ Some t → leaves_at setup ch o ≡ false → (next_cycle setup ch o).ends ≡ true
       → is_within (allowance_of setup) (next_cycle setup ch o).next (clock_at setup ch o) t ≡ true
   unfolding is_leaving is_late route_of
   end_within t a e f =
       let route = route_at setup ch o in
       let u = rw f at e in
       let late = (or_none (not (has_burst route.options)) _ (or_none (eqb (rest_at setup ch o).left 0) _ u).1).1 in
-      let asked = ap (λ (x : Asked). late_for route x (clock_at setup ch o) (next_cycle setup ch o).next) a in
+      let asked = ap (λ (x : Option ℕ). late_for route x (clock_at setup ch o) (next_cycle setup ch o).next) a in
       not-false _ (or_none (not (has_linger route.options)) _ (sym asked ∙ late)).1
 
-  kept_in_time : (t : ℕ) → ch.asked ≡ At t → leaves_at setup ch o ≡ false
+  kept_in_time : (t : ℕ) → ch.asked ≡ Some t → leaves_at setup ch o ≡ false
       → is_in_time setup o (request_of (moved_at setup ch o) o) (clock_at setup ch o) t ≡ true
   unfolding is_in_time
   kept_in_time t a e =
@@ -343,11 +342,11 @@ module _ (setup : Setup) (framed : is_framed setup ≡ true) (ch : Channel) (sha
       (ap (is_present setup.levels) q ∙ present, ap (λ (m : ℕ). is_fair (level_of setup.levels m).options) q ∙ f))
       (λ b. s.settled.fair l k (sym (get_or-set_other ch.inactive o l true false (eqb-false l o b)) ∙ e))
 
-  pub released_settled : (a : Asked) → Settled setup (ended_by (released_by (route_at setup ch o).options a (clock_at setup ch o))
+  pub released_settled : (a : Option ℕ) → Settled setup (ended_by (released_by (route_at setup ch o).options a (clock_at setup ch o))
       (moved_at setup ch o) o)
   unfolding route_of moved_on clocked with_request
-  released_settled Never = freed_settled ch.inactive s.settled.fair
-  released_settled (At t) =
+  released_settled None = freed_settled ch.inactive s.settled.fair
+  released_settled (Some t) =
       by_test (is_fair (level_of setup.levels o).options)
       (λ f. rw f (freed_settled (marked_at ch.inactive o) (marked_fair f)))
       (λ n. rw n (freed_settled ch.inactive s.settled.fair))
@@ -384,11 +383,11 @@ module _ (setup : Setup) (framed : is_framed setup ≡ true) (ch : Channel) (sha
 -- and keeps the arrays' shape
 pub freed_shaped : (ch : Channel) (marks : List Bool) → length marks ≡ places → Shaped ch → Shaped (freed ch marks)
 unfolding freed
-freed_shaped ch marks n k = changed_shaped ch Arbitrating Never ch.ever ch.clock marks n k
+freed_shaped ch marks n k = changed_shaped ch Arbitrating None ch.ever ch.clock marks n k
 
 granted_shaped : (ch : Channel) (w : ℕ) → Shaped ch → Shaped (granted ch w)
 unfolding granted
-granted_shaped ch w k = changed_shaped ch (Granted w) Never true (grant_clock ch) ch.inactive k.inactive k
+granted_shaped ch w k = changed_shaped ch (Granted w) None true (grant_clock ch) ch.inactive k.inactive k
 
 pub ended_shaped : (ending : Ending) (ch : Channel) (o : ℕ) → Shaped ch → Shaped (ended_by ending ch o)
 ended_shaped Kept ch o k = k

@@ -6,27 +6,25 @@ use mathlib.Core.Logic.{◌⊎◌, inl, inr}
 use mathlib.Core.List.{List}
 use native.Mathlib.Nat.{sub-zero}
 use native.Mathlib.Omega.{arith}
-use borrow.Author.Tests.{lt-ltb, ltb-true, ltb-false, not-true}
-use lib.ListN.{length, get_or, set}
+use borrow.Author.Tests.{lt-ltb, ltb-true, ltb-false}
+use lib.ListN.{length, get_or}
 use lib.Dec.{ltb}
+use Rattle.std.specs.Prelude.{Err, Ok, Result}
 use Rattle.basics.proofs.Tests.{by_test, and_left, and_right}
 use Rattle.refusal.specs.Refusal.{refusal_by}
 use Rattle.refusal.specs.declared.Refusal.{Refusal}
-use Rattle.refusal.specs.declared.Verdict.TheVariants.{Refused}
 use Rattle.frame.specs.declared.Setup.{Setup}
+use Rattle.channel.specs.declared.Channel.{Channel}
 use Rattle.channel.specs.declared.Request.{Request}
 use Rattle.channel.specs.Channel.{owner_place, request_of, with_request}
-use Rattle.sound.specs.inner.Tables.{request_at}
 use Rattle.act.specs.declared.Route.{Route}
 use Rattle.act.specs.declared.Entry.{Entry}
 use Rattle.logline.specs.Line.{entry_text}
 use Rattle.logline.specs.Text.{has_room_in, place_after, out_after}
-use Rattle.step.specs.declared.StepAnswer.{StepAnswer}
-use Rattle.step.specs.declared.StepAnswer.TheVariants.{Done, Refused as NotDone}
 use Rattle.step.specs.declared.acts.Decided.{Decided}
 use Rattle.step.specs.declared.logs.Log.{Log}
 use Rattle.step.specs.Step.{Room, moved_slave, moved_master}
-use Rattle.step.specs.inner.Machine.{no_route, standing_of, decided_of, decided_marks, Actable}
+use Rattle.step.specs.inner.Machine.{no_route, marked, standing_of, decided_of, decided_marks, Actable}
 use Rattle.step.specs.Run.{World}
 use Rattle.step.specs.Log.{Page, page_after, closed, log_from}
 use Rattle.step.specs.inner.Turns.{
@@ -47,22 +45,22 @@ use Rattle.step.specs.inner.Turns.{
 }
 use Rattle.step.proofs.RunLaws.{log_more, log_stop, log_end}
 use Rattle.step.proofs.TurnLaws.{OneStep}
-use Rattle.step.proofs.GoingLaws.{Going, go_on_lem, stepped}
+use Rattle.step.proofs.GoingLaws.{Going, go_on_lem, goes_on, stepped}
 
 -- what was still to come, comes after the step
-log_once : (setup : Setup) (budget : ℕ) (w later : Running) (p : Page) (answer : StepAnswer) → w.full ≡ false → w.done < budget
+log_once : (setup : Setup) (budget : ℕ) (w later : Running) (p : Page) (answer : Result Entry Refusal) → w.full ≡ false → w.done < budget
     → has_room_in p.out p.at ≡ true → OneStep setup w later answer
     → log_to_come setup budget (record { running = later; page = page_by answer p }) ≡ log_to_come setup budget (record { running = w; page = p })
 unfolding log_to_come
-log_once setup budget w later p (Done e) f h room s =
+log_once setup budget w later p (Ok e) f h room s =
     rw (f, s.full, s.done)
     (sym
     (log_more setup budget w.done (world_of w) h p e room s.told
     ∙ ap (λ (x : _). log_from setup (budget - (w.done + 1)) (w.done + 1) x (page_after p e)) s.next))
-log_once setup budget w later p (NotDone why) f h room s =
+log_once setup budget w later p (Err why) f h room s =
     let x = s.stopped why refl in
     rw (f, s.full, s.done)
-    (ap (λ (y : World). closed (Refused (refusal_by 6)) w.done y p) x.1
+    (ap (λ (y : World). closed (Err (refusal_by 6)) w.done y p) x.1
     ∙ sym (log_stop setup budget w.done (world_of w) h p why room s.told ∙ rw x.0))
 
 -- after a step that was done the channel has been granted
@@ -70,35 +68,33 @@ done_one : (first : Bool) (done : ℕ) → (ltb 0 (done + 1) || first) ≡ true
 done_one first done = rw (lt-ltb 0 (done + 1) (omega arith))
 
 -- a step put back into the arrays, from what the calls said
-module _ (route : Route) (log : Log) (first : Bool) (inactive : List Bool) (direction space address left offset slave master out : List ℕ) (place : ℕ)
-    (here : place ≡ owner_place log.standing.phase) (q : Request) (request : q ≡ request_at direction space address left offset place)
-    (d : Decided) (marks : List Bool) (e : d ≡ decided_of route log.standing (ltb 0 log.done || first) q left inactive)
-    (m : marks ≡ decided_marks route log.standing (ltb 0 log.done || first) q left inactive) (slaves masters : List ℕ)
+module _ (route : Route) (log : Log) (first : Bool) (ch : Channel) (slave master out : List ℕ) (place : ℕ)
+    (here : place ≡ owner_place log.standing.phase) (q : Request) (request : q ≡ request_of ch place)
+    (d : Decided) (after : Channel) (e : d ≡ decided_of route log.standing (ltb 0 log.done || first) q ch.left ch.inactive)
+    (m : after ≡ marked ch (decided_marks route log.standing (ltb 0 log.done || first) q ch.left ch.inactive)) (put : Channel)
+    (is_put : put ≡ with_request after place d.slot) (slaves masters : List ℕ)
     (moved : (slaves ≡ moved_slave d.carry slave master) × (masters ≡ moved_master d.carry slave master)) where
   abbrev was : Logging
-  was = logging_of log first inactive direction space address left offset slave master out
+  was = logging_of log first ch slave master out
 
   decided_is : d ≡ decided_in route was.running.channel was.running.tally
   decided_is = e ∙ rw (request, here)
 
-  marks_is : marks ≡ marks_in route was.running.channel was.running.tally
-  marks_is = m ∙ rw (request, here)
+  put_is : put ≡ with_request (marked ch (marks_in route was.running.channel was.running.tally)) (owner_place log.standing.phase) d.slot
+  put_is = is_put ∙ rw (m, request, here)
 
-  abbrev put : Log → List ℕ → Logging
-  put next page =
-      logging_of next first marks (set direction place d.slot.direction) (set space place d.slot.space)
-      (set address place d.slot.address) (set left place d.slot.left) (set offset place d.slot.offset) slaves masters page
-
-  pub log_done : (entry : Entry) (at : ℕ) (page : List ℕ) → d.acted.answer ≡ Done entry → at ≡ place_after out log.at (entry_text entry)
+  pub log_done : (entry : Entry) (at : ℕ) (page : List ℕ) → d.acted.answer ≡ Ok entry → at ≡ place_after out log.at (entry_text entry)
       → page ≡ out_after out log.at (entry_text entry)
-      → put (record { standing = d.acted.standing; done = log.done + 1; full = false; at = at }) page ≡ log_step route was
+      → logging_of (record { standing = d.acted.standing; done = log.done + 1; full = false; at = at }) first put slaves masters page
+      ≡ log_step route was
   unfolding log_step step_run with_request page_after
-  log_done entry at page a b c = rw (← decided_is, ← marks_is, a, b, c, moved.0, moved.1, here, done_one first log.done)
+  log_done entry at page a b c = rw (put_is, ← decided_is, a, b, c, moved.0, moved.1, done_one first log.done)
 
-  pub log_full : (why : Refusal) → d.acted.answer ≡ NotDone why
-      → put (record { standing = d.acted.standing; done = log.done; full = true; at = log.at }) out ≡ log_step route was
+  pub log_full : (why : Refusal) → d.acted.answer ≡ Err why
+      → logging_of (record { standing = d.acted.standing; done = log.done; full = true; at = log.at }) first put slaves masters out
+      ≡ log_step route was
   unfolding log_step step_run with_request
-  log_full why a = rw (← decided_is, ← marks_is, a, moved.0, moved.1, here)
+  log_full why a = rw (put_is, ← decided_is, a, moved.0, moved.1)
 
 -- what the step relies on, in the form of its calls' needs
 pub acts_at : (route : Route) (w : Running) → Loggable route w → (place : ℕ) → place ≡ owner_place w.channel.phase → (q : Request)
@@ -125,19 +121,16 @@ logs_first setup budget routes first z g = record { going = g; same = refl; leas
 pub goes : (done budget : ℕ) (full room : Bool) → ((ltb done budget && not full) && room) ≡ true
     → (done < budget) × (full ≡ false) × (room ≡ true)
 goes done budget full room e =
-    let both = and_left (ltb done budget && not full) room e in (
-      ltb-true done budget (and_left (ltb done budget) (not full) both),
-      not-true full (and_right (ltb done budget) (not full) both),
-      and_right (ltb done budget && not full) room e,
-    )
+    let more = goes_on done budget full (and_left (ltb done budget && not full) room e) in
+    (more.0, more.1, and_right (ltb done budget && not full) room e)
 
-steps_more : (answer : StepAnswer) (done : ℕ) → (stops answer ≡ true) ⊎ (done < steps_after answer done)
-steps_more (Done e) done = inr (omega arith)
-steps_more (NotDone why) done = inl refl
+steps_more : (answer : Result Entry Refusal) (done : ℕ) → (stops answer ≡ true) ⊎ (done < steps_after answer done)
+steps_more (Ok e) done = inr (omega arith)
+steps_more (Err why) done = inl refl
 
-steps_most_lem : (answer : StepAnswer) (done budget : ℕ) → done < budget → steps_after answer done ≤ budget
-steps_most_lem (Done e) done budget h = omega (arith, h)
-steps_most_lem (NotDone why) done budget h = omega (arith, h)
+steps_most_lem : (answer : Result Entry Refusal) (done budget : ℕ) → done < budget → steps_after answer done ≤ budget
+steps_most_lem (Ok e) done budget h = omega (arith, h)
+steps_most_lem (Err why) done budget h = omega (arith, h)
 
 module _ (setup : Setup) (budget : ℕ) (routes : List Route) (first g : Logging) (l : Logs setup budget routes first g)
     (h : g.running.done < budget) (f : g.running.full ≡ false) (room : has_room_in g.page.out g.page.at ≡ true) (i : ℕ)
@@ -148,7 +141,7 @@ module _ (setup : Setup) (budget : ℕ) (routes : List Route) (first g : Logging
   abbrev route : Route
   route = get_or routes (owner_place w.channel.phase) no_route
 
-  abbrev answer : StepAnswer
+  abbrev answer : Result Entry Refusal
   answer = (decided_in route w.channel w.tally).acted.answer
 
   one : OneStep setup w (step_run route w) answer

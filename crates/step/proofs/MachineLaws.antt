@@ -2,19 +2,19 @@
 use Prim.Native.Nat.{ℕ, ◌+◌, ◌<◌}
 use mathlib.Core.Path.{◌≡◌, refl, sym, ap, ◌∙◌}
 use mathlib.Core.Bool.{Bool, true, false, cond}
-use mathlib.Core.List.{List}
 use native.Mathlib.Omega.{arith}
 use borrow.Author.Tests.{ltb-false}
 use lib.ListN.{get_or, set}
 use lib.Seq.{set-get_or}
 use lib.Dec.{eqb, ltb}
+use Rattle.std.specs.Prelude.{Err, None, Ok, Option, Result, Some}
+use Rattle.act.specs.declared.Entry.{Entry}
+use Rattle.refusal.specs.declared.Refusal.{Refusal}
 use Rattle.basics.specs.Limits.{places, clock_limit}
 use Rattle.basics.proofs.Tests.{by_test}
 use Rattle.frame.specs.declared.Setup.{Setup}
 use Rattle.channel.specs.declared.Phase.{Phase}
 use Rattle.channel.specs.declared.Phase.TheVariants.{Arbitrating, Granted}
-use Rattle.channel.specs.declared.Asked.{Asked}
-use Rattle.channel.specs.declared.Asked.TheVariants.{Never, At}
 use Rattle.channel.specs.declared.Channel.{Channel}
 use Rattle.channel.specs.declared.Request.{Request}
 use Rattle.channel.specs.Channel.{owner_place, request_of, with_request, changed, Shaped}
@@ -33,9 +33,8 @@ use Rattle.step.specs.declared.acts.Decided.{Decided}
 use Rattle.step.specs.Plan.{owner_plan, request_plan, phase_plan, act_plan}
 use Rattle.step.specs.declared.Plan.TheVariants as plan
 use Rattle.step.specs.Step.{Ready, advanced_by, tallied, no_carry, carry_by}
-use Rattle.step.specs.declared.StepAnswer.{StepAnswer}
-use Rattle.step.specs.declared.StepAnswer.TheVariants.{Done, Refused as NotDone}
 use Rattle.step.specs.inner.Machine.{
+  marked,
   ever_by,
   standing_of,
   marks_left,
@@ -63,9 +62,9 @@ use Rattle.step.proofs.KeepLaws.{route_at, next_cycle}
 use Rattle.step.proofs.QuietLaws.{cycle_quiet, leave_quiet}
 
 -- once granted, a channel stays so
-pub ever_stays : (answer : StepAnswer) (ever : Bool) → ever ≡ true → ever_by answer ever ≡ ever
-ever_stays (Done e) ever t = sym t
-ever_stays (NotDone why) ever t = refl
+pub ever_stays : (answer : Result Entry Refusal) (ever : Bool) → ever ≡ true → ever_by answer ever ≡ ever
+ever_stays (Ok e) ever t = sym t
+ever_stays (Err why) ever t = refl
 
 -- a request put back as it is
 pub put_same : (ch : Channel) (l : ℕ) → with_request ch l (request_of ch l) ≡ ch
@@ -81,7 +80,7 @@ module _ (ch : Channel) (o : ℕ) (active : is_inactive ch.inactive o ≡ false)
 
   pub put_ended : (ending : Ending) (clock : ℕ) (slot : Request)
       → with_request
-      (changed ch (cond (is_kept ending) ch.phase Arbitrating) (cond (is_kept ending) ch.asked Never) ch.ever clock
+      (changed ch (cond (is_kept ending) ch.phase Arbitrating) (cond (is_kept ending) ch.asked None) ch.ever clock
       (set ch.inactive o (is_marked ending)))
       o slot
       ≡ ended_by ending (with_request (clocked ch clock) o slot) o
@@ -104,8 +103,8 @@ module _ (setup : Setup) (ch : Channel) (t : Tally) (s m : ℕ) (r : Ready setup
         channel =
             with_request
             (changed ch (decided_at route p).acted.standing.phase (decided_at route p).acted.standing.asked
-            ever (decided_at route p).acted.standing.clock (marks_by route (standing_of ch t) ch.ever (request_of ch (owner_place p)) ch.left
-            ch.inactive p))
+            ever (decided_at route p).acted.standing.clock (marks_by route (standing_of ch t) ch.ever (request_of ch (owner_place p))
+            ch.left ch.inactive p))
             (owner_place p)
             (decided_at route p).slot;
         tally = (decided_at route p).acted.standing.tally;
@@ -123,7 +122,7 @@ module _ (setup : Setup) (ch : Channel) (t : Tally) (s m : ℕ) (r : Ready setup
   abbrev after_grant : Channel
   after_grant =
       changed ch (Granted wins)
-      (cond (line_active ch.left (grant_marks ch.left ch.inactive) (Granted wins)) (At (grant_clock ch)) Never) true (grant_clock ch)
+      (cond (line_active ch.left (grant_marks ch.left ch.inactive) (Granted wins)) (Some (grant_clock ch)) None) true (grant_clock ch)
       (grant_marks ch.left ch.inactive)
 
   arbitrating : Comes route Arbitrating (ever_by (decided_at route Arbitrating).acted.answer ch.ever) (phase_plan setup ch Arbitrating)
@@ -134,7 +133,7 @@ module _ (setup : Setup) (ch : Channel) (t : Tally) (s m : ℕ) (r : Ready setup
       (λ room. (rw (room, put_same after_grant 0), rw room))
 
   -- an owner without a request
-  resting : (o : ℕ) → ch.phase ≡ Granted o → (asked : Asked) → ch.asked ≡ asked
+  resting : (o : ℕ) → ch.phase ≡ Granted o → (asked : Option ℕ) → ch.asked ≡ asked
       → (record {
         channel =
             with_request
@@ -146,8 +145,8 @@ module _ (setup : Setup) (ch : Channel) (t : Tally) (s m : ℕ) (r : Ready setup
       ≡ tallied t (advanced_by setup ch (cond (line ch) (plan.Leave o) plan.Idle)))
       × (no_carry ≡ carry_by setup ch (cond (line ch) (plan.Leave o) plan.Idle))
   unfolding leave_turn freed
-  resting o e Never q = (rw (sound.quiet o e q, put_same ch o), rw (sound.quiet o e q))
-  resting o e (At a) q =
+  resting o e None q = (rw (sound.quiet o e q, put_same ch o), rw (sound.quiet o e q))
+  resting o e (Some a) q =
       let active = (sound.settled.asked o a e q).line in (
         rw (active, put_same (freed ch ch.inactive) o, leave_quiet setup r.framed ch k sound o e active, q),
         rw active,
@@ -212,15 +211,12 @@ module _ (setup : Setup) (ch : Channel) (t : Tally) (s m : ℕ) (r : Ready setup
     pub actable : Actable route (standing_of ch t) q
     actable = rw (request, place) (actable_by setup ch t s m r route route_is)
 
-    pub decision_made : (d : Decided) (marks : List Bool) (after : Channel) → d
-        ≡ decided_of route (standing_of ch t) ch.ever q ch.left ch.inactive
-        → marks ≡ decided_marks route (standing_of ch t) ch.ever q ch.left ch.inactive
-        → after ≡ channel_of d.acted.standing (ever_by d.acted.answer ch.ever) marks (set ch.direction at d.slot.direction)
-        (set ch.space at d.slot.space)
-        (set ch.address at d.slot.address) (set ch.left at d.slot.left) (set ch.offset at d.slot.offset)
-        → record { stepped = record { channel = after; tally = d.acted.standing.tally; answer = d.acted.answer }; carry = d.carry }
+    pub decision_made : (d : Decided) (after put later : Channel) → d ≡ decided_of route (standing_of ch t) ch.ever q ch.left ch.inactive
+        → after ≡ marked ch (decided_marks route (standing_of ch t) ch.ever q ch.left ch.inactive)
+        → put ≡ with_request after at d.slot → later ≡ channel_of d.acted.standing (ever_by d.acted.answer ch.ever) put
+        → record { stepped = record { channel = later; tally = d.acted.standing.tally; answer = d.acted.answer }; carry = d.carry }
         ≡ decision_by setup ch t (act_plan setup ch)
     unfolding with_request
-    decision_made d marks after e f g =
+    decision_made d after put later e f g h =
         let x = made setup ch t s m r k route route_is in
-        rw (g, f, e, request, place) (λ i. record { stepped = x.0 i; carry = x.1 i })
+        rw (h, g, f, e, request, place) (λ i. record { stepped = x.0 i; carry = x.1 i })

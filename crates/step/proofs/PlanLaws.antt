@@ -8,10 +8,11 @@ use borrow.Author.Tests.{ltb-false, eqb-true, eq-eqb}
 use lib.Dec.{eqb, ltb}
 use lib.ListN.{get_or, length, length-drop}
 use lib.Seq.{length-paste}
+use Rattle.std.specs.Prelude.{Err}
+use Rattle.refusal.specs.Refusal.{accepted}
 use Rattle.basics.specs.Limits.{clock_limit}
 use Rattle.refusal.specs.declared.Refusal.{Refusal}
 use Rattle.refusal.specs.declared.Refusal.TheVariants.{ClockFull}
-use Rattle.refusal.specs.declared.Verdict.TheVariants.{Accepted, Refused as NotReady}
 use Rattle.basics.proofs.Tests.{by_test, and_left, and_right}
 use Rattle.frame.specs.Frame.{is_framed}
 use Rattle.frame.specs.Find.{slave_store_length}
@@ -34,7 +35,6 @@ use Rattle.act.specs.Turn.{arbitration_time, grant_clock, grant_turn, leave_turn
 use Rattle.step.specs.declared.Plan.{Plan}
 use Rattle.step.specs.declared.Plan.TheVariants.{Idle, Refused, Grant, Leave, Cycle}
 use Rattle.step.specs.Plan.{next_of, within_clock, owner_plan, phase_plan, act_plan, ready_verdict, plan_by, plan_of}
-use Rattle.step.specs.declared.StepAnswer.TheVariants.{Refused as NotDone}
 use Rattle.step.specs.declared.Carry.{Carry}
 use Rattle.step.specs.inner.Machine.{plan_in}
 use Rattle.step.specs.Step.{Ready, Roomy, Room, advanced_by, carry_of, moved_slave, moved_master, slave_by, master_by}
@@ -108,10 +108,10 @@ pub planned_roomy : (setup : Setup) (ch : Channel) (o slave master : ℕ) → Re
 planned_roomy setup ch o slave master r e = let p = says setup ch (Cycle o) e in roomy setup ch o slave master r p.0 p.1
 
 -- a call that is refused by neither 9 nor 8 is ready, and its plan is the act's
-not_ready : {r : Refusal} → NotReady r ≡ Accepted → ⊥
+not_ready : {r : Refusal} → Err r ≡ accepted → ⊥
 not_ready e = let z : ◌≡◌ {A = ℕ} 0 1 = cc in omega arith
 
-pub ready_is : (setup : Setup) (ch : Channel) (slave master : ℕ) → ready_verdict setup ch slave master ≡ Accepted
+pub ready_is : (setup : Setup) (ch : Channel) (slave master : ℕ) → ready_verdict setup ch slave master ≡ accepted
     → Ready setup ch slave master
 unfolding ready_verdict
 ready_is setup ch slave master e =
@@ -127,14 +127,14 @@ ready_is setup ch slave master e =
     }
 
 -- and so an act may rely on it, whatever its stores
-pub ready_act : (setup : Setup) (ch : Channel) (slave master : ℕ) → ready_verdict setup ch slave master ≡ Accepted
+pub ready_act : (setup : Setup) (ch : Channel) (slave master : ℕ) → ready_verdict setup ch slave master ≡ accepted
     → Ready setup ch (slave_store_length setup.slaves) setup.master
 ready_act setup ch slave master e =
     let r = ready_is setup ch slave master e in
     record { framed = r.framed; sound = r.sound; slave = refl; master = refl }
 
 pub ready_by : (setup : Setup) (ch : Channel) (slave master : ℕ) → Ready setup ch slave master → ready_verdict setup ch slave master
-    ≡ Accepted
+    ≡ accepted
 unfolding ready_verdict
 ready_by setup ch slave master r = rw (r.framed, r.sound, eq-eqb slave _ r.slave, eq-eqb master _ r.master)
 
@@ -154,7 +154,7 @@ plan_in_lem setup ch (Cycle o) = refl
 
 -- a refused act leaves the stores
 pub refused_still : (setup : Setup) (ch : Channel) (p : Plan) (why : Refusal) (slave master : List ℕ) → (advanced_by setup ch p).answer
-    ≡ NotDone why
+    ≡ Err why
     → (slave_by setup ch p slave master ≡ slave) × (master_by setup ch p slave master ≡ master)
 refused_still setup ch Idle why slave master e = let z : ◌≡◌ {A = ℕ} 0 1 = cc in absurd (omega arith)
 refused_still setup ch (Refused r) why slave master e = (refl, refl)

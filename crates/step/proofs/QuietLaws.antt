@@ -5,13 +5,12 @@ use mathlib.Core.Bool.{Bool, true, false, false≢true}
 use mathlib.Core.List.{List}
 use native.Mathlib.Omega.{arith}
 use lib.Seq.{get_or-set_other}
+use Rattle.std.specs.Prelude.{None, Option, Some}
 use Rattle.basics.specs.Limits.{places, clock_limit}
 use Rattle.basics.proofs.Tests.{by_test}
 use Rattle.frame.specs.Frame.{is_framed}
 use Rattle.frame.specs.declared.Setup.{Setup}
 use Rattle.channel.specs.declared.Phase.TheVariants.{Arbitrating, Granted}
-use Rattle.channel.specs.declared.Asked.{Asked}
-use Rattle.channel.specs.declared.Asked.TheVariants.{Never, At}
 use Rattle.channel.specs.declared.Channel.{Channel}
 use Rattle.channel.specs.Channel.{owner_of, has_request, with_request, Shaped}
 use Rattle.channel.specs.Line.{is_inactive, line_active, line, line_rule}
@@ -62,34 +61,34 @@ module _ (setup : Setup) (framed : is_framed setup ≡ true) (ch : Channel) (sha
       }
 
   -- asked or not, a released channel has marks only while the line is active
-  freed_marked : (marks : List Bool) → (a : Asked) → ch.asked ≡ a
-      → ((l : ℕ) → (l ≡ o → ⊥) → is_inactive marks l ≡ is_inactive ch.inactive l) → (a ≡ Never → marks ≡ ch.inactive)
+  freed_marked : (marks : List Bool) → (a : Option ℕ) → ch.asked ≡ a
+      → ((l : ℕ) → (l ≡ o → ⊥) → is_inactive marks l ≡ is_inactive ch.inactive l) → (a ≡ None → marks ≡ ch.inactive)
       → (l : ℕ) → l < places → is_inactive marks l ≡ true → line_active (moved_at setup ch o).left marks Arbitrating ≡ true
-  freed_marked marks Never a same none l k m =
+  freed_marked marks None a same none l k m =
       let was = s.marked l k (sym (ap (λ (x : List Bool). is_inactive x l) (none refl)) ∙ m) in
       absurd (false≢true (sym (s.quiet o phase a) ∙ was))
-  freed_marked marks (At t) a same none l k m =
+  freed_marked marks (Some t) a same none l k m =
       still_driven ch o phase (s.settled.asked o t phase a).line (moved_at setup ch o)
       (kept_open setup framed ch shaped s o phase asks room) marks same
 
-  released_sound : (a : Asked) → ch.asked ≡ a
+  released_sound : (a : Option ℕ) → ch.asked ≡ a
       → Sound setup (ended_by (released_by (route_at setup ch o).options a (clock_at setup ch o)) (moved_at setup ch o) o)
   unfolding freed moved_on clocked with_request
-  released_sound Never a =
+  released_sound None a =
       record {
-        settled = released_settled setup framed ch shaped s o phase asks room Never;
-        marked = freed_marked ch.inactive Never a (λ l n. refl) (λ e. refl);
+        settled = released_settled setup framed ch shaped s o phase asks room None;
+        marked = freed_marked ch.inactive None a (λ l n. refl) (λ e. refl);
         quiet = λ p f q. let z : ◌≡◌ {A = ℕ} 0 1 = cc in absurd (omega arith);
       }
-  released_sound (At t) a =
-      let settled = released_settled setup framed ch shaped s o phase asks room (At t) in
+  released_sound (Some t) a =
+      let settled = released_settled setup framed ch shaped s o phase asks room (Some t) in
       by_test (is_fair (route_at setup ch o).options)
       (λ f.
       rw f
       (record {
         settled = rw f at settled;
         marked =
-            freed_marked (marked_at ch.inactive o) (At t) a (λ l n. get_or-set_other ch.inactive o l true false n)
+            freed_marked (marked_at ch.inactive o) (Some t) a (λ l n. get_or-set_other ch.inactive o l true false n)
             (λ e. let z : ◌≡◌ {A = ℕ} 0 1 = cc in absurd (omega arith));
         quiet = λ p g q. let z : ◌≡◌ {A = ℕ} 0 1 = cc in absurd (omega arith);
       }))
@@ -97,7 +96,7 @@ module _ (setup : Setup) (framed : is_framed setup ≡ true) (ch : Channel) (sha
       rw f
       (record {
         settled = rw f at settled;
-        marked = freed_marked ch.inactive (At t) a (λ l n. refl) (λ e. refl);
+        marked = freed_marked ch.inactive (Some t) a (λ l n. refl) (λ e. refl);
         quiet = λ p g q. let z : ◌≡◌ {A = ℕ} 0 1 = cc in absurd (omega arith);
       }))
 

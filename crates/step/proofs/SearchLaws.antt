@@ -14,10 +14,11 @@ use Rattle.basics.specs.Scan.{first_from}
 use Rattle.basics.proofs.ScanLaws.{first_miss}
 use Rattle.basics.proofs.Tests.{by_test, same_test, and_left, and_right, or_left, or_right}
 use Rattle.channel.specs.declared.Phase.TheVariants.{Granted}
+use Rattle.channel.specs.declared.Channel.{Channel}
 use Rattle.channel.specs.Channel.{has_request}
 use Rattle.channel.specs.Line.{is_inactive, waits, line_active, winner, winner_from}
 use Rattle.channel.proofs.LineLaws.{waits_is, line_by, line_some, winner_is, winner_lowest}
-use Rattle.step.specs.inner.Machine.{any_from, waits_from, asks_beside, others_from, NoneAsk, NoneWait, Search, marks_left, IsChosen}
+use Rattle.step.specs.inner.Machine.{any_from, waits_from, asks_beside, others_from, NoneAsk, NoneWait, Search, marked, marks_left, IsChosen}
 
 -- one of the numbers from i on
 pub from_hit : (f : ℕ → Bool) (i k j : ℕ) → i ≤ j → j < i + k → f j ≡ true → any_from f i k ≡ true
@@ -96,25 +97,25 @@ others_line left base w none small =
         (λ t. leb-true base l t)
         (λ f. absurd (false≢true (sym (none l (omega (arith, leb-false base l f))) ∙ e)))
 
-module _ (left : List ℕ) (before : List Bool) (base low w : ℕ) (s : Search left before base low) (found : w ≡ winner_from left before low) where
+module _ (ch : Channel) (base low w : ℕ) (s : Search ch base low) (found : w ≡ winner_from ch.left ch.inactive low) where
   -- the search from `low` on finds the winner
-  pub is : w ≡ winner left before
+  pub is : w ≡ winner ch.left ch.inactive
   unfolding winner_from
-  is = found ∙ first_skip (waits left before) low places system_master s.small s.clear
+  is = found ∙ first_skip (waits ch.left ch.inactive) low places system_master s.small s.clear
 
   -- below the winner nobody waits
-  below_winner : NoneWait left before (winner left before)
+  below_winner : NoneWait ch.left ch.inactive (winner ch.left ch.inactive)
   below_winner l h =
-      by_test (waits left before l)
-      (λ t. absurd (omega (arith, h, winner_lowest left before l (omega (arith, h, winner_small left before)) t)))
+      by_test (waits ch.left ch.inactive l)
+      (λ t. absurd (omega (arith, h, winner_lowest ch.left ch.inactive l (omega (arith, h, winner_small ch.left ch.inactive)) t)))
       (λ f. f)
 
   -- some level above the winner waits: the marks stay
-  pub chosen_active : waits_from left before (w + 1) ≡ true → IsChosen left before before base
+  pub chosen_active : waits_from ch.left ch.inactive (w + 1) ≡ true → IsChosen ch ch base
       (record { winner = w; active = true; low = w })
   unfolding marks_left
   chosen_active t =
-      let line = ap (λ (x : ℕ). line_active left before (Granted x)) (sym is) ∙ above_winner left before w is ∙ t in
+      let line = ap (λ (x : ℕ). line_active ch.left ch.inactive (Granted x)) (sym is) ∙ above_winner ch.left ch.inactive w is ∙ t in
       record {
         won = is;
         marks = rw line;
@@ -124,29 +125,29 @@ module _ (left : List ℕ) (before : List Bool) (base low w : ℕ) (s : Search l
       }
 
   -- none does: the marks go
-  base_low : base ≤ winner left before
+  base_low : base ≤ winner ch.left ch.inactive
   base_low =
       ⊎_elim
-      (λ p. at_least (waits_is left before 0 (winner left before) p.0).0)
+      (λ p. at_least (waits_is ch.left ch.inactive 0 (winner ch.left ch.inactive) p.0).0)
       (λ n. omega (arith, n.0, s.most))
-      (winner_is left before)
+      (winner_is ch.left ch.inactive)
     where
-      at_least : has_request left (winner left before) ≡ true → base ≤ winner left before
+      at_least : has_request ch.left (winner ch.left ch.inactive) ≡ true → base ≤ winner ch.left ch.inactive
       at_least e =
-          by_test (leb base (winner left before))
+          by_test (leb base (winner ch.left ch.inactive))
           (λ t. leb-true base _ t)
           (λ f. absurd (false≢true (sym (s.none _ (omega (arith, leb-false base _ f))) ∙ e)))
 
-  pub chosen_quiet : (active : Bool) → waits_from left before (w + 1) ≡ false → active ≡ others_from left base w
-      → IsChosen left before (replicate places false) base (record { winner = w; active = active; low = base })
+  pub chosen_quiet : (active : Bool) → waits_from ch.left ch.inactive (w + 1) ≡ false → active ≡ others_from ch.left base w
+      → IsChosen ch (marked ch (replicate places false)) base (record { winner = w; active = active; low = base })
   unfolding marks_left waits
   chosen_quiet active f e =
-      let line = ap (λ (x : ℕ). line_active left before (Granted x)) (sym is) ∙ above_winner left before w is ∙ f in
+      let line = ap (λ (x : ℕ). line_active ch.left ch.inactive (Granted x)) (sym is) ∙ above_winner ch.left ch.inactive w is ∙ f in
       record {
         won = is;
         marks = rw line;
-        active = e ∙ others_line left base w s.none (omega (arith, s.most))
-            ∙ ap (λ (x : ℕ). line_active left (replicate places false) (Granted x)) is;
+        active = e ∙ others_line ch.left base w s.none (omega (arith, s.most))
+            ∙ ap (λ (x : ℕ). line_active ch.left (replicate places false) (Granted x)) is;
         low = base_low;
         clear = λ l h. rw (s.none l h);
       }

@@ -8,10 +8,10 @@ use native.Mathlib.Omega.{arith}
 use borrow.Author.Tests.{eqb-true, eqb-false, not-true}
 use lib.ListN.{length, get_or}
 use lib.Dec.{eqb}
+use Rattle.std.specs.Prelude.{Err, Ok, Result}
 use Rattle.basics.proofs.Tests.{by_test}
 use Rattle.refusal.specs.Refusal.{refusal_by}
 use Rattle.refusal.specs.declared.Refusal.{Refusal}
-use Rattle.refusal.specs.declared.Verdict.TheVariants.{Refused}
 use Rattle.frame.specs.declared.Setup.{Setup}
 use Rattle.channel.specs.declared.Phase.TheVariants.{Granted}
 use Rattle.channel.specs.declared.Channel.{Channel}
@@ -29,8 +29,6 @@ use Rattle.tally.specs.declared.Tally.{Tally}
 use Rattle.step.specs.declared.Stepped.{Stepped}
 use Rattle.step.specs.declared.Plan.{Plan}
 use Rattle.step.specs.declared.Plan.TheVariants as plan
-use Rattle.step.specs.declared.StepAnswer.{StepAnswer}
-use Rattle.step.specs.declared.StepAnswer.TheVariants.{Done, Refused as NotDone}
 use Rattle.step.specs.Plan.{act_plan, plan_of}
 use Rattle.step.specs.Step.{Ready, Room, advanced_by, tally_by, step_of, slave_by, master_by, slave_after, master_after}
 use Rattle.step.specs.Run.{world, stopped, step_in, world_after, run_from}
@@ -48,14 +46,14 @@ SameWays setup ch later =
     → (has_request ch.left l ≡ true) × (route_of setup l (request_of later l) ≡ route_of setup l (request_of ch l))
 
 -- one step between them, and what it answers
-pub record OneStep (setup : Setup) (w later : Running) (answer : StepAnswer) : Type 0 where
+pub record OneStep (setup : Setup) (w later : Running) (answer : Result Entry Refusal) : Type 0 where
   -- it is the step of the definitions
   pub told : (step_in setup (world_of w)).answer ≡ answer
   pub next : world_after setup (world_of w) ≡ world_of later
   pub done : later.done ≡ steps_after answer w.done
   pub full : later.full ≡ stops answer
   -- nothing but the clock refuses it, and then all is as it was
-  pub stopped : (why : Refusal) → answer ≡ NotDone why → (why ≡ refusal_by 6) × (world_of later ≡ world_of w)
+  pub stopped : (why : Refusal) → answer ≡ Err why → (why ≡ refusal_by 6) × (world_of later ≡ world_of w)
   pub ready : Ready setup later.channel (length later.slave) (length later.master)
   pub shaped : Shaped later.channel
   pub slave : length later.slave ≡ length w.slave
@@ -90,10 +88,10 @@ turned_on setup budget w v u f a b =
     }
 
 -- one step is some
-pub turned_once : (setup : Setup) (budget : ℕ) (w later : Running) (answer : StepAnswer) → w.full ≡ false → w.done < budget
+pub turned_once : (setup : Setup) (budget : ℕ) (w later : Running) (answer : Result Entry Refusal) → w.full ≡ false → w.done < budget
     → OneStep setup w later answer → Turned setup budget w later
 unfolding to_come
-turned_once setup budget w later (Done e) f h s =
+turned_once setup budget w later (Ok e) f h s =
     record {
       same =
           rw (f, s.full, s.done)
@@ -109,12 +107,12 @@ turned_once setup budget w later (Done e) f h s =
       master = s.master;
       ways = s.ways;
     }
-turned_once setup budget w later (NotDone why) f h s =
+turned_once setup budget w later (Err why) f h s =
     let x = s.stopped why refl in
     record {
       same =
           rw (f, s.full, s.done)
-          (ap (stopped (Refused (refusal_by 6)) w.done) x.1
+          (ap (stopped (Err (refusal_by 6)) w.done) x.1
           ∙ sym (run_stop setup budget w.done (world_of w) h why s.told ∙ rw x.0));
       ready = s.ready;
       shaped = s.shaped;
@@ -132,12 +130,12 @@ by_request setup ch later same l o =
     (sym (ap (λ (q : Request). not (eqb q.left 0)) (same l)) ∙ o, ap (route_of setup l) (same l))
 
 -- a step that is done is not refused
-not_refused : {e : Entry} {why : Refusal} → Done e ≡ NotDone why → ⊥
+not_refused : {e : Entry} {why : Refusal} → Ok e ≡ Err why → ⊥
 not_refused e = let z : ◌≡◌ {A = ℕ} 0 1 = cc in omega arith
 
-abbrev reason : StepAnswer → Refusal
-reason (Done e) = refusal_by 6
-reason (NotDone why) = why
+abbrev reason : Result Entry Refusal → Refusal
+reason (Ok e) = refusal_by 6
+reason (Err why) = why
 
 module _ (setup : Setup) (w : Running) (r : Ready setup w.channel (length w.slave) (length w.master))
     (k : Shaped w.channel) where
@@ -172,7 +170,7 @@ module _ (setup : Setup) (w : Running) (r : Ready setup w.channel (length w.slav
     sound_after : is_sound setup (advanced_by setup ch p).channel ≡ true
     sound_after = sound_by setup _ (step_sound setup r.framed ch k (sound_is setup ch r.sound) p is)
 
-    planned_step : ((why : Refusal) → (advanced_by setup ch p).answer ≡ NotDone why → (why ≡ refusal_by 6) × (world_of (planned p) ≡ world_of w))
+    planned_step : ((why : Refusal) → (advanced_by setup ch p).answer ≡ Err why → (why ≡ refusal_by 6) × (world_of (planned p) ≡ world_of w))
         → length (slave_by setup ch p w.slave w.master) ≡ length w.slave → length (master_by setup ch p w.slave w.master)
         ≡ length w.master
         → SameWays setup ch (advanced_by setup ch p).channel → OneStep setup w (planned p) (advanced_by setup ch p).answer

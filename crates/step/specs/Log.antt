@@ -1,15 +1,12 @@
 -- Document 01, "One step" and "One sheet, whole": a run that writes the log line of each of its steps into a lent buffer, as far as this has room.
-use Rattle.std.specs.Prelude.{ℕ, zero, suc, cond, List, length, ltb}
+use Rattle.refusal.specs.declared.Refusal.{Refusal}
+use Rattle.std.specs.Prelude.{ℕ, zero, suc, cond, List, length, ltb, Err, Ok, Result}
 use Rattle.basics.specs.Limits.{steps_most}
-use Rattle.refusal.specs.Refusal.{refusal_by}
-use Rattle.refusal.specs.declared.Verdict.{Verdict}
-use Rattle.refusal.specs.declared.Verdict.TheVariants.{Accepted, Refused}
+use Rattle.refusal.specs.Refusal.{accepted, refusal_by}
 use Rattle.frame.specs.declared.Setup.{Setup}
 use Rattle.act.specs.declared.Entry.{Entry}
 use Rattle.logline.specs.Line.{entry_text}
 use Rattle.logline.specs.Text.{has_room_in, place_after, out_after}
-use Rattle.step.specs.declared.StepAnswer.{StepAnswer}
-use Rattle.step.specs.declared.StepAnswer.TheVariants.{Done, Refused as NotDone}
 use Rattle.step.specs.declared.Logged.{Logged}
 use Rattle.step.specs.Plan.{ready_verdict}
 use Rattle.step.specs.Run.{World, stopped, step_in, world_after}
@@ -34,7 +31,7 @@ pub record LoggedOut : Type 0 where
   pub master : List ℕ
   pub out : List ℕ
 
-abbrev pub closed : Verdict → ℕ → World → Page → LoggedOut
+abbrev pub closed : Result Unit Refusal → ℕ → World → Page → LoggedOut
 closed verdict steps w p =
     record {
       result = record { ran = (stopped verdict steps w).result; end = p.at };
@@ -44,23 +41,23 @@ closed verdict steps w p =
     }
 
 -- "stops before a refused one"
-abbrev pub log_on : StepAnswer → (Entry → LoggedOut) → (Verdict → LoggedOut) → LoggedOut
-log_on (Done entry) on stop = on entry
-log_on (NotDone why) on stop = stop (Refused why)
+abbrev pub log_on : Result Entry Refusal → (Entry → LoggedOut) → (Result Unit Refusal → LoggedOut) → LoggedOut
+log_on (Ok entry) on stop = on entry
+log_on (Err why) on stop = stop (Err why)
 
 -- the steps that are left, after `done` of them: each is taken only where there is room for its line, and then writes it
 unfoldable pub log_from : Setup → ℕ → ℕ → World → Page → LoggedOut
-log_from setup zero done w p = closed Accepted done w p
+log_from setup zero done w p = closed accepted done w p
 log_from setup (suc left) done w p =
     cond (has_room_in p.out p.at)
     (log_on (step_in setup w).answer (λ (entry : Entry). log_from setup left (suc done) (world_after setup w) (page_after p entry))
-    (λ (verdict : Verdict). closed verdict done w p))
-    (closed Accepted done w p)
+    (λ (verdict : Result Unit Refusal). closed verdict done w p))
+    (closed accepted done w p)
 
 -- the refusals are those of a run: "9 first, then 8, then 7"
-abbrev pub log_by : Setup → Verdict → ℕ → World → Page → LoggedOut
-log_by setup (Refused why) budget w p = closed (Refused why) 0 w p
-log_by setup Accepted budget w p = cond (ltb steps_most budget) (closed (Refused (refusal_by 7)) 0 w p) (log_from setup budget 0 w p)
+abbrev pub log_by : Setup → Result Unit Refusal → ℕ → World → Page → LoggedOut
+log_by setup (Err why) budget w p = closed (Err why) 0 w p
+log_by setup (Ok _) budget w p = cond (ltb steps_most budget) (closed (Err (refusal_by 7)) 0 w p) (log_from setup budget 0 w p)
 
 unfoldable pub log_run_of : Setup → ℕ → World → Page → LoggedOut
 log_run_of setup budget w p = log_by setup (ready_verdict setup w.channel (length w.slave) (length w.master)) budget w p

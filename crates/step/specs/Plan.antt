@@ -1,9 +1,8 @@
 -- Document 01, "One step": what a step is going to do. The bytes of the stores have no part in it.
-use Rattle.std.specs.Prelude.{ℕ, ◌+◌, cond, not, ◌&&◌, [], ◌∷◌, eqb, ltb}
+use Rattle.refusal.specs.declared.Refusal.{Refusal}
+use Rattle.std.specs.Prelude.{ℕ, ◌+◌, cond, not, ◌&&◌, [], ◌∷◌, eqb, ltb, Err, Ok, Result}
 use Rattle.basics.specs.Limits.{clock_limit}
-use Rattle.refusal.specs.Refusal.{refusal_by, refused_by}
-use Rattle.refusal.specs.declared.Verdict.{Verdict}
-use Rattle.refusal.specs.declared.Verdict.TheVariants.{Accepted, Refused as NotReady}
+use Rattle.refusal.specs.Refusal.{accepted, refusal_by, refused_by}
 use Rattle.frame.specs.Frame.{is_framed}
 use Rattle.frame.specs.Find.{slave_store_length}
 use Rattle.frame.specs.declared.Setup.{Setup}
@@ -45,17 +44,17 @@ unfoldable pub act_plan : Setup → Channel → Plan
 act_plan setup ch = phase_plan setup ch ch.phase
 
 -- "9 first, then 8": "9: .. step, run: the set-up breaks the frame .. the channel is unsound", "8: step, run: a lent store's length differs from the set-up"
-unfoldable pub ready_verdict : Setup → Channel → ℕ → ℕ → Verdict
+unfoldable pub ready_verdict : Setup → Channel → ℕ → ℕ → Result Unit Refusal
 ready_verdict setup ch slave master =
     refused_by
     ((9, not (is_framed setup && is_sound setup ch)) ∷
     (8, not (eqb slave (slave_store_length setup.slaves) && eqb master setup.master)) ∷
     [])
-    Accepted
+    accepted
 
-abbrev pub plan_by : Setup → Channel → Verdict → Plan
-plan_by setup ch Accepted = act_plan setup ch
-plan_by setup ch (NotReady why) = Refused why
+abbrev pub plan_by : Setup → Channel → Result Unit Refusal → Plan
+plan_by setup ch (Ok _) = act_plan setup ch
+plan_by setup ch (Err why) = Refused why
 
 -- then 6, where the step would take time
 unfoldable pub plan_of : Setup → Channel → ℕ → ℕ → Plan

@@ -1,5 +1,7 @@
 -- Document 01, "One step": the step itself, on the channel and on both stores, and its entry.
-use Rattle.std.specs.Prelude.{ℕ, ◌+◌, ◌-◌, ◌≤◌, ◌<◌, ◌≡◌, Bool, true, cond, ◌&&◌, List, [], ◌∷◌, length, drop, eqb, leb}
+use Rattle.act.specs.declared.Entry.{Entry}
+use Rattle.refusal.specs.declared.Refusal.{Refusal}
+use Rattle.std.specs.Prelude.{ℕ, ◌+◌, ◌-◌, ◌≤◌, ◌<◌, ◌≡◌, Bool, true, cond, ◌&&◌, List, [], ◌∷◌, length, drop, eqb, leb, Err, Ok, Result}
 use Rattle.std.proofs.Math.Seq.{paste}
 use Rattle.basics.specs.Limits.{memory_end, store_most}
 use Rattle.refusal.specs.Refusal.{refusal_number}
@@ -19,8 +21,6 @@ use Rattle.step.specs.declared.Plan.TheVariants.{Idle, Refused, Grant, Leave, Cy
 use Rattle.step.specs.declared.Stepped.{Stepped}
 use Rattle.step.specs.declared.Carry.{Carry}
 use Rattle.step.specs.declared.Decision.{Decision}
-use Rattle.step.specs.declared.StepAnswer.{StepAnswer}
-use Rattle.step.specs.declared.StepAnswer.TheVariants.{Done, Refused as NotDone}
 use Rattle.act.specs.Cycle.{route_of, cycle_bytes, Turned, cycle_turn}
 use Rattle.act.specs.Entry.{entry_numbers}
 use Rattle.act.specs.Turn.{grant_turn, leave_turn, idle_turn}
@@ -35,17 +35,17 @@ plan_numbers (Leave owner) = 0 ∷ 82 ∷ owner ∷ []
 plan_numbers (Cycle owner) = 0 ∷ 67 ∷ owner ∷ []
 
 -- a step's answer in the paper's numbers: 0 and its entry's, or the refusal; "A refused step .. has no entry"
-abbrev pub step_numbers : StepAnswer → List ℕ
-step_numbers (Done entry) = 0 ∷ entry_numbers entry
-step_numbers (NotDone why) = refusal_number why ∷ []
+abbrev pub step_numbers : Result Entry Refusal → List ℕ
+step_numbers (Ok entry) = 0 ∷ entry_numbers entry
+step_numbers (Err why) = refusal_number why ∷ []
 
 -- the channel after a step, and its entry or why it was refused
 pub record Advanced : Type 0 where
   pub channel : Channel
-  pub answer : StepAnswer
+  pub answer : Result Entry Refusal
 
 abbrev pub done_by : Turned → Advanced
-done_by turned = record { channel = turned.channel; answer = Done turned.entry }
+done_by turned = record { channel = turned.channel; answer = Ok turned.entry }
 
 -- one cycle of an owner's request
 abbrev pub cycle_at : Setup → Channel → ℕ → Request → Turned
@@ -53,16 +53,16 @@ cycle_at setup ch owner q = cycle_turn (route_of setup owner q) ch owner q.direc
 
 -- "A refused call gives back the channel it got"; a refused step "has no entry"
 abbrev pub advanced_by : Setup → Channel → Plan → Advanced
-advanced_by setup ch (Refused why) = record { channel = ch; answer = NotDone why }
+advanced_by setup ch (Refused why) = record { channel = ch; answer = Err why }
 advanced_by setup ch Idle = done_by (idle_turn ch)
 advanced_by setup ch (Grant winner) = done_by (grant_turn ch winner)
 advanced_by setup ch (Leave owner) = done_by (leave_turn ch owner)
 advanced_by setup ch (Cycle owner) = done_by (cycle_at setup ch owner (request_of ch owner))
 
 -- "Each step .. adds to the tally by that entry"; "A refused step leaves it"
-abbrev pub tally_by : Tally → StepAnswer → Tally
-tally_by t (Done entry) = add_entry t entry
-tally_by t (NotDone why) = t
+abbrev pub tally_by : Tally → Result Entry Refusal → Tally
+tally_by t (Ok entry) = add_entry t entry
+tally_by t (Err why) = t
 
 abbrev pub tallied : Tally → Advanced → Stepped
 tallied t a = record { channel = a.channel; tally = tally_by t a.answer; answer = a.answer }

@@ -8,12 +8,11 @@ ghost use Rattle.step.specs.Run.{world};
 ghost use Rattle.step.specs.Log.{page, log_from};
 ghost use Rattle.step.specs.inner.Turns.{running_by, logging_of, log_step, Loggable};
 
-use crate::acts::{Standing, act_on, channel_of, owner_place, put_slot, slot_at};
+use crate::acts::{Standing, act_on, put_request, request_at, settle, standing_of};
 use crate::cycles::carry;
 use crate::turns::{routes_of, verdict_of};
-use crate::{Logged, Ran, StepAnswer};
+use crate::{Logged, Ran};
 use act::Route;
-use basics::PLACES;
 use channel::Channel;
 use frame::Setup;
 use tally::Tally;
@@ -34,46 +33,33 @@ fn log_step(
     place: usize,
     first: bool,
     log: Log,
-    inactive: &mut [bool; PLACES],
-    direction: &mut [u32; PLACES],
-    space: &mut [u32; PLACES],
-    address: &mut [u32; PLACES],
-    left: &mut [u32; PLACES],
-    offset: &mut [u32; PLACES],
+    channel: &mut Channel,
     slave: &mut [u8],
     master: &mut [u8],
     out: &mut [u8],
 ) -> Log
     requires place_value { place ≡ owner_place log.standing.phase }
-    requires loggable { Loggable route (running_by log.standing (ltb 0 log.done || first) log.done log.full inactive.old direction.old
-        space.old address.old left.old offset.old slave.old master.old) }
-    ensures { logging_of result first inactive.new direction.new space.new address.new
-        left.new offset.new slave.new master.new out.new
-        ≡ log_step route (logging_of log first inactive.old direction.old space.old
-        address.old left.old offset.old slave.old master.old out.old) }
+    requires loggable { Loggable route (running_by log.standing (ltb 0 log.done || first) log.done log.full channel.old
+        slave.old master.old) }
+    ensures { logging_of result first channel.new slave.new master.new out.new
+        ≡ log_step route (logging_of log first channel.old slave.old master.old out.old) }
 {
-    let standing = log.standing;
-    let request = slot_at(direction, space, address, left, offset, place);
+    let request = request_at(channel, place);
     let ever = (0 < log.done) | first;
-    let decided = act_on(route, standing, ever, request, left, inactive);
-    let slot = decided.slot;
-    put_slot(direction, space, address, left, offset, place, slot);
-    let what = decided.carry;
-    carry(what, slave, master);
+    let decided = act_on(route, log.standing, ever, request, channel);
+    put_request(channel, place, decided.slot);
+    carry(decided.carry, slave, master);
     let acted = decided.acted;
-    let next = acted.standing;
-    let answer = acted.answer;
-    let StepAnswer::Done(entry) = answer else {
+    let Ok(entry) = acted.answer else {
         return Log {
-            standing: next,
-            done: log.done,
+            standing: acted.standing,
             full: true,
-            at: log.at,
+            ..log
         };
     };
     let end = logline::put_entry(out, log.at, entry);
     Log {
-        standing: next,
+        standing: acted.standing,
         done: log.done + 1,
         full: false,
         at: end,
@@ -82,8 +68,8 @@ fn log_step(
 
 // Up to `budget` steps of a sound channel over stores of the right lengths, with their lines from `at` on.
 pub(crate) fn log_steps(
-    setup: Setup,
-    channel: Channel,
+    setup: &Setup,
+    channel: &Channel,
     tally: Tally,
     slave: &mut [u8],
     master: &mut [u8],
@@ -91,81 +77,46 @@ pub(crate) fn log_steps(
     at: usize,
     budget: u32,
 ) -> Logged
-    requires ready { Ready setup channel (length slave.old) (length master.old) }
-    requires shaped { Shaped channel }
+    requires ready { Ready setup.now channel.now (length slave.old) (length master.old) }
+    requires shaped { Shaped channel.now }
     requires budget_le_steps_most { budget ≤ steps_most }
-    ensures value { result ≡ (log_from setup budget 0 (world channel tally slave.old master.old)
+    ensures value { result ≡ (log_from setup.now budget 0 (world channel.now tally slave.old master.old)
         (page out.old at)).result }
-    ensures slave_after { slave.new ≡ (log_from setup budget 0 (world channel tally slave.old master.old)
+    ensures slave_after { slave.new ≡ (log_from setup.now budget 0 (world channel.now tally slave.old master.old)
         (page out.old at)).slave }
-    ensures master_after { master.new ≡ (log_from setup budget 0 (world channel tally slave.old master.old)
+    ensures master_after { master.new ≡ (log_from setup.now budget 0 (world channel.now tally slave.old master.old)
         (page out.old at)).master }
-    ensures out_after { out.new ≡ (log_from setup budget 0 (world channel tally slave.old master.old)
+    ensures out_after { out.new ≡ (log_from setup.now budget 0 (world channel.now tally slave.old master.old)
         (page out.old at)).out }
 {
-    let phase = channel.phase;
-    let asked = channel.asked;
-    let mut inactive = channel.inactive;
-    let mut direction = channel.direction;
-    let mut space = channel.space;
-    let mut address = channel.address;
-    let mut left = channel.left;
-    let mut offset = channel.offset;
-    let routes = routes_of(setup, &direction, &space, &address, &left, &offset);
-    let standing = Standing {
-        phase: phase,
-        asked: asked,
-        clock: channel.clock,
-        tally: tally,
-    };
+    let routes = routes_of(setup, channel);
     let mut log = Log {
-        standing: standing,
+        standing: standing_of(channel, tally),
         done: 0,
         full: false,
-        at: at,
+        at,
     };
     let first = channel.ever;
+    let mut next = *channel;
     while (log.done < budget) & !log.full & logline::has_room(out.len(), log.at) {
-        let current = log.standing;
-        let place = owner_place(current);
-        let route = routes[place];
+        let place = channel::owner_place(log.standing.phase);
         log = log_step(
-            route,
+            routes[place],
             place,
             first,
             log,
-            &mut inactive,
-            &mut direction,
-            &mut space,
-            &mut address,
-            &mut left,
-            &mut offset,
+            &mut next,
             slave,
             master,
             out,
         );
     }
-    let last = log.standing;
-    let figures = last.tally;
-    let verdict = verdict_of(log.full);
-    let next = channel_of(
-        last,
-        (0 < log.done) | first,
-        inactive,
-        direction,
-        space,
-        address,
-        left,
-        offset,
-    );
+    settle(&mut next, log.standing, (0 < log.done) | first);
     let ran = Ran {
         channel: next,
-        tally: figures,
+        tally: log.standing.tally,
         steps: log.done,
-        verdict: verdict,
+        verdict: verdict_of(log.full),
     };
-    Logged {
-        ran: ran,
-        end: log.at,
-    }
+    Logged { ran, end: log.at }
 }

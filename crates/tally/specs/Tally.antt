@@ -1,8 +1,6 @@
 -- Document 01, "One step": "There is a tally the host lends: grants, cycles, bytes moved, longest hold (the greatest release clock less asked time, over
 -- releases that had one). .. Each step, in a run too, adds to the tally by that entry; a figure stops at 4,294,967,295."
-use Rattle.std.specs.Prelude.{ℕ, ◌+◌, min, max}
-use Rattle.act.specs.declared.Hold.{Hold}
-use Rattle.act.specs.declared.Hold.TheVariants.{Unasked, After}
+use Rattle.std.specs.Prelude.{ℕ, ◌+◌, min, max, None, Option, Some}
 use Rattle.act.specs.declared.Ending.{Ending}
 use Rattle.act.specs.declared.Ending.TheVariants.{Kept, Released, Marked}
 use Rattle.act.specs.declared.Entry.{Entry}
@@ -21,9 +19,9 @@ abbrev pub no_tally : Tally
 no_tally = record { grants = 0; cycles = 0; bytes = 0; hold = 0 }
 
 -- what a release adds to the longest hold: without an asked time nothing, which 0 is, as no hold is below it
-abbrev pub hold_figure : Hold → ℕ
-hold_figure Unasked = 0
-hold_figure (After time) = time
+abbrev pub hold_figure : Option ℕ → ℕ
+hold_figure None = 0
+hold_figure (Some time) = time
 
 abbrev pub ending_figure : Ending → ℕ
 ending_figure Kept = 0
@@ -45,7 +43,7 @@ add_cycle t bytes ending =
     }
 
 -- "longest hold": a release without a request
-unfoldable pub add_release : Tally → Hold → Tally
+unfoldable pub add_release : Tally → Option ℕ → Tally
 add_release t hold = record { grants = t.grants; cycles = t.cycles; bytes = t.bytes; hold = larger_of t.hold (hold_figure hold) }
 
 -- "Each step .. adds to the tally by that entry"

@@ -5,7 +5,7 @@
 ghost use Rattle.std.specs.Prelude.{◌≡◌};
 ghost use Rattle.tally.specs.Tally.{no_tally, add_capped, larger_of, hold_figure, ending_figure, add_grant, add_cycle, add_release, add_entry};
 
-use act::{Ending, Entry, Hold};
+use act::{Ending, Entry};
 
 #[repr(C)]
 #[derive(Clone, Copy)]
@@ -32,28 +32,20 @@ pub fn no_tally() -> Tally
 fn add_capped(a: u32, b: u32) -> u32
     ensures { result ≡ add_capped a b }
 {
-    let sum = a as u64 + b as u64;
-    if sum < 4294967295 {
-        sum as u32
-    } else {
-        4294967295
-    }
+    a.saturating_add(b)
 }
 
 fn larger_of(a: u32, b: u32) -> u32
     ensures { result ≡ larger_of a b }
 {
-    if a < b { b } else { a }
+    a.max(b)
 }
 
 // The clock less the asked time at a release, or 0 where there was none.
-fn hold_figure(hold: Hold) -> u32
+fn hold_figure(hold: Option<u32>) -> u32
     ensures { result ≡ hold_figure hold }
 {
-    match hold {
-        Hold::Unasked => 0,
-        Hold::After(time) => time,
-    }
+    hold.unwrap_or(0)
 }
 
 fn ending_figure(ending: Ending) -> u32
@@ -67,38 +59,37 @@ fn ending_figure(ending: Ending) -> u32
 }
 
 // One more grant.
+#[tactic(auto, unfolding(crate::specs::Tally::add_grant))]
 pub fn add_grant(tally: Tally) -> Tally
     ensures { result ≡ add_grant tally }
 {
     Tally {
         grants: add_capped(tally.grants, 1),
-        cycles: tally.cycles,
-        bytes: tally.bytes,
-        hold: tally.hold,
+        ..tally
     }
 }
 
 // One more cycle, of these bytes and with this ending.
+#[tactic(auto, unfolding(crate::specs::Tally::add_cycle))]
 pub fn add_cycle(tally: Tally, bytes: u32, ending: Ending) -> Tally
     ensures { result ≡ add_cycle tally bytes ending }
 {
     Tally {
-        grants: tally.grants,
         cycles: add_capped(tally.cycles, 1),
         bytes: add_capped(tally.bytes, bytes),
         hold: larger_of(tally.hold, ending_figure(ending)),
+        ..tally
     }
 }
 
 // One more release without a request.
-pub fn add_release(tally: Tally, hold: Hold) -> Tally
+#[tactic(auto, unfolding(crate::specs::Tally::add_release))]
+pub fn add_release(tally: Tally, hold: Option<u32>) -> Tally
     ensures { result ≡ add_release tally hold }
 {
     Tally {
-        grants: tally.grants,
-        cycles: tally.cycles,
-        bytes: tally.bytes,
         hold: larger_of(tally.hold, hold_figure(hold)),
+        ..tally
     }
 }
 
@@ -109,10 +100,7 @@ pub fn add_entry(tally: Tally, entry: Entry) -> Tally
     match entry {
         Entry::Idle(_) => tally,
         Entry::Grant(_, _) => add_grant(tally),
-        Entry::Cycle(cycle) => {
-            let ending = cycle.ending;
-            add_cycle(tally, cycle.bytes, ending)
-        }
+        Entry::Cycle(cycle) => add_cycle(tally, cycle.bytes, cycle.ending),
         Entry::Release(_, _, hold) => add_release(tally, hold),
     }
 }

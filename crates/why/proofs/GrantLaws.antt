@@ -9,6 +9,9 @@ use native.Mathlib.Nat.{eq-or-lt_of_le}
 use borrow.Author.Tests.{eqb-true, eq-eqb, ne_eqb, ltb-true, ltb-false, not-false}
 use lib.Dec.{ltb}
 use lib.ListN.{length}
+use Rattle.std.specs.Prelude.{Err, Ok, Result}
+use Rattle.act.specs.declared.Entry.{Entry}
+use Rattle.refusal.specs.declared.Refusal.{Refusal}
 use Rattle.basics.specs.Limits.{places, system_master, clock_limit}
 use Rattle.basics.proofs.Tests.{by_test, and_left, and_right}
 use Rattle.refusal.specs.Refusal.{refusal_by}
@@ -28,8 +31,6 @@ use Rattle.sound.proofs.SoundFacts.{arbitrating_is, sound_is}
 use Rattle.tally.specs.declared.Tally.{Tally}
 use Rattle.step.specs.declared.Plan.{Plan}
 use Rattle.step.specs.declared.Plan.TheVariants as plan
-use Rattle.step.specs.declared.StepAnswer.{StepAnswer}
-use Rattle.step.specs.declared.StepAnswer.TheVariants.{Done, Refused as NotDone}
 use Rattle.step.specs.inner.Machine.{plan_in}
 use Rattle.step.specs.Plan.{act_plan}
 use Rattle.step.specs.Step.{Ready, advanced_by, step_of}
@@ -56,7 +57,7 @@ asking_small ch l shaped asks =
     none f = let z = ap (λ (q : Request). q.left) (no_request_lem ch l shaped (ltb-false l places f)) in rw z
 
 module _ (setup : Setup) (ch : Channel) (t : Tally) (slave master : List ℕ) (ready : Ready setup ch (length slave) (length master)) where
-  abbrev answer : StepAnswer
+  abbrev answer : Result Entry Refusal
   answer = (step_of setup ch t slave master).answer
 
   -- the step is that of the plan
@@ -66,8 +67,8 @@ module _ (setup : Setup) (ch : Channel) (t : Tally) (slave master : List ℕ) (r
 
   -- The step grants a level; or the clock has no room for an arbitration, and the step is refused by 6.
   pub data GrantedNext (w : ℕ) : Type 0 where
-    granted_next : answer ≡ Done (entry.Grant (grant_clock ch) w) → GrantedNext w
-    clock_full : clock_limit < grant_clock ch → answer ≡ NotDone (refusal_by 6) → GrantedNext w
+    granted_next : answer ≡ Ok (entry.Grant (grant_clock ch) w) → GrantedNext w
+    clock_full : clock_limit < grant_clock ch → answer ≡ Err (refusal_by 6) → GrantedNext w
 
   -- while arbitrating, that level is the winner
   arbitrates : ch.phase ≡ Arbitrating → GrantedNext (winner ch.left ch.inactive)
@@ -78,7 +79,7 @@ module _ (setup : Setup) (ch : Channel) (t : Tally) (slave master : List ℕ) (r
       (λ room. granted_next (planned ∙ rw (p, room)))
 
   -- a level that the step grants, at whatever clock
-  module _ (clock w : ℕ) (e : answer ≡ Done (entry.Grant clock w)) where
+  module _ (clock w : ℕ) (e : answer ≡ Ok (entry.Grant clock w)) where
     grants_is : (ch.phase ≡ Arbitrating) × (w ≡ winner ch.left ch.inactive)
     grants_is =
         let p : act_plan setup ch ≡ plan.Grant w = sym (plan_in_lem setup ch (act_plan setup ch)) ∙ ap plan_in (sym planned ∙ e) in
@@ -124,7 +125,7 @@ module _ (setup : Setup) (ch : Channel) (t : Tally) (slave master : List ℕ) (r
         let s = reasons.says setup ch l WinsNext e in
         (rw s.2 (arbitrates s.1), not-false _ s.0.1)
 
-    pub wins_told : (clock : ℕ) → answer ≡ Done (entry.Grant clock l) → has_request ch.left l ≡ true → reason_of setup ch l ≡ WinsNext
+    pub wins_told : (clock : ℕ) → answer ≡ Ok (entry.Grant clock l) → has_request ch.left l ≡ true → reason_of setup ch l ≡ WinsNext
     wins_told clock e asks =
         let g = grants_is clock l e in
         let u = takes_part g.0 asks (winner_active g.0 g.1 asks) in
@@ -132,7 +133,7 @@ module _ (setup : Setup) (ch : Channel) (t : Tally) (slave master : List ℕ) (r
         reasons.at_last setup ch l u ∙ rw (reasons.ranks setup ch l u g.0 false (rw self refl), g.0)
 
     -- The one level that the step may grant without a request is 15, and it is told that it has none.
-    pub default_told : (clock : ℕ) → answer ≡ Done (entry.Grant clock l) → has_request ch.left l ≡ false
+    pub default_told : (clock : ℕ) → answer ≡ Ok (entry.Grant clock l) → has_request ch.left l ≡ false
         → (l ≡ system_master) × (reason_of setup ch l ≡ NoRequest)
     unfolding reason_of is_present
     default_told clock e none =
@@ -160,7 +161,7 @@ module _ (setup : Setup) (ch : Channel) (t : Tally) (slave master : List ℕ) (r
         let least = winner_lowest ch.left ch.inactive l (asking_small ch l shaped asks) (rw (asks, s.0.3)) in
         (rw s.2 (arbitrates s.1), asks, s.0.3, ⊎_elim (λ q. absurd (s.3 q)) (λ h. h) (eq-or-lt_of_le (rw s.2 least)))
 
-    pub outranked_told : (clock w : ℕ) → answer ≡ Done (entry.Grant clock w) → (w ≡ l → ⊥) → has_request ch.left l ≡ true
+    pub outranked_told : (clock w : ℕ) → answer ≡ Ok (entry.Grant clock w) → (w ≡ l → ⊥) → has_request ch.left l ≡ true
         → is_inactive ch.inactive l ≡ false → reason_of setup ch l ≡ Outranked w
     outranked_told clock w e other asks active =
         let g = grants_is clock w e in

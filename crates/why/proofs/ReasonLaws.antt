@@ -1,7 +1,7 @@
 -- Document 02, CR 3: "Show that the reason given is true and all before it false, that one always is true". Of every set-up, channel and number, sound or not.
 -- Assumes nothing.
 use Prim.Native.Nat.{ℕ, ◌≤◌, ◌<◌}
-use mathlib.Core.Path.{◌≡◌, refl, sym, ap, ap₂, ◌∙◌}
+use mathlib.Core.Path.{◌≡◌, refl, sym, ap₂, ◌∙◌}
 use mathlib.Core.Bool.{Bool, true, false, cond, not, false≢true}
 use native.Mathlib.Omega.{arith}
 use borrow.Author.Tests.{eqb-true, eqb-false, eq-eqb, ne_eqb, not-false, not-true}
@@ -9,14 +9,11 @@ use lib.Dec.{eqb}
 use Rattle.basics.proofs.SameLaws.{at}
 use Rattle.basics.proofs.Tests.{by_test, and_left, and_right}
 use Rattle.frame.specs.declared.Setup.{Setup}
-use Rattle.frame.specs.Rows.{is_present}
 use Rattle.channel.specs.declared.Phase.{Phase}
 use Rattle.channel.specs.declared.Phase.TheVariants.{Arbitrating, Granted}
 use Rattle.channel.specs.declared.Channel.{Channel}
-use Rattle.channel.specs.declared.Request.{Request}
-use Rattle.channel.specs.Channel.{is_arbitrating, owner_of, has_request, request_of}
+use Rattle.channel.specs.Channel.{is_arbitrating, owner_of, has_request}
 use Rattle.channel.specs.Line.{is_inactive, waits, winner}
-use Rattle.sound.proofs.SoundFacts.{arbitrating_is}
 use Rattle.why.specs.declared.Reason.{Reason}
 use Rattle.why.specs.declared.Reason.TheVariants.{NotPresent, NoRequest, Owns, Inactive, Holds, Outranked, WinsNext}
 use Rattle.why.specs.Reason.{is_absent, lacks_request, owns, holds_against, outranks, wins_next, is_true, reason_number, reason_level, reason_numbers}
@@ -51,13 +48,6 @@ module _ (setup : Setup) (ch : Channel) (l : ℕ) where
   Says (Outranked w) = Unless × (ch.phase ≡ Arbitrating) × (w ≡ winner ch.left ch.inactive) × (w ≡ l → ⊥)
   Says WinsNext = Unless × (ch.phase ≡ Arbitrating) × (l ≡ winner ch.left ch.inactive)
 
-  -- the same by what was looked up
-  pub unless : {present owning marked : Bool} {q : Request} → present ≡ is_present setup.levels l → q ≡ request_of ch l → owning ≡ owns ch.phase l
-      → marked ≡ is_inactive ch.inactive l → not present ≡ false → eqb q.left 0 ≡ false → owning ≡ false → marked ≡ false → Unless
-  unless p q o m there some other active =
-      let left = sym (ap (λ (r : Request). r.left) q) in
-      (rw (← p, there), rw (left, some), sym o ∙ other, sym m ∙ active)
-
   -- then it is one of the last three
   abbrev pub last_ones : Phase → Reason
   last_ones p =
@@ -75,26 +65,6 @@ module _ (setup : Setup) (ch : Channel) (l : ℕ) where
   pub at_last : Unless → reason_of setup ch l ≡ last_ones ch.phase
   unfolding reason_of
   at_last u = rw (u.0, u.1, u.2, u.3)
-
-  pub holds_at_last : Unless → not (is_arbitrating ch.phase) ≡ true → Holds (owner_of ch.phase) ≡ reason_of setup ch l
-  holds_at_last u held = sym (at_last u ∙ by_phase ch.phase held u.2)
-    where
-      by_phase : (p : Phase) → not (is_arbitrating p) ≡ true → owns p l ≡ false → last_ones p ≡ Holds (owner_of p)
-      by_phase Arbitrating e n = absurd (false≢true e)
-      by_phase (Granted o) e n = rw (eq-eqb o o refl, n)
-
-  module _ (u : Unless) {w : ℕ} (e : w ≡ winner ch.left ch.inactive) (free : not (is_arbitrating ch.phase) ≡ false) where
-    p : ch.phase ≡ Arbitrating
-    p = arbitrating_is ch.phase (not-false _ free)
-
-    told : (other : Bool) → not (eqb w l) ≡ other → outranks ch l (winner ch.left ch.inactive) ≡ other
-    told other n = ranks u p other (sym (ap (λ (x : ℕ). not (eqb x l)) e) ∙ n)
-
-    pub outranked_at_last : not (eqb w l) ≡ true → Outranked w ≡ reason_of setup ch l
-    outranked_at_last n = ap Outranked e ∙ sym (at_last u ∙ rw (told true n, p))
-
-    pub wins_at_last : not (eqb w l) ≡ false → WinsNext ≡ reason_of setup ch l
-    wins_at_last n = sym (at_last u ∙ rw (told false n, p))
 
   last_says : (p : Phase) → ch.phase ≡ p → Unless → Says (last_ones p)
   last_says (Granted o) e u =

@@ -1,7 +1,7 @@
 -- Document 02, CR 3: "For a channel and a level, give the first that is true of" the seven reasons. "Refusals: 9 as before."
-use Rattle.std.specs.Prelude.{ℕ, Bool, cond, not, ◌&&◌, List, [], ◌∷◌}
+use Rattle.std.specs.Prelude.{ℕ, Bool, cond, not, ◌&&◌, List, [], ◌∷◌, Result, Ok}
 use Rattle.refusal.specs.Refusal.{refused_by}
-use Rattle.refusal.specs.declared.Verdict.TheVariants.{Accepted}
+use Rattle.refusal.specs.declared.Refusal.{Refusal}
 use Rattle.frame.specs.Frame.{is_framed}
 use Rattle.frame.specs.declared.Setup.{Setup}
 use Rattle.channel.specs.declared.Channel.{Channel}
@@ -10,7 +10,6 @@ use Rattle.channel.specs.Line.{winner}
 use Rattle.sound.specs.Sound.{is_sound}
 use Rattle.why.specs.declared.Reason.{Reason}
 use Rattle.why.specs.declared.Reason.TheVariants as reason
-use Rattle.why.specs.declared.Told.{Told}
 use Rattle.why.specs.Reason.{is_true}
 
 -- the first of some reasons that is true, or the last of all
@@ -33,10 +32,6 @@ reasons_before ch =
 unfoldable pub reason_of : Setup → Channel → ℕ → Reason
 reason_of setup ch l = first_true (is_true setup ch l) (reasons_before ch) reason.WinsNext
 
--- the call, of any number as a level. What a refused one tells means nothing: it is the first reason
-unfoldable pub why_of : Setup → Channel → ℕ → Told
-why_of setup ch l =
-    record {
-      reason = cond (is_framed setup && is_sound setup ch) (reason_of setup ch l) reason.NotPresent;
-      verdict = refused_by ((9, not (is_framed setup && is_sound setup ch)) ∷ []) Accepted;
-    }
+-- the call, of any number as a level
+unfoldable pub why_of : Setup → Channel → ℕ → Result Reason Refusal
+why_of setup ch l = refused_by ((9, not (is_framed setup && is_sound setup ch)) ∷ []) (Ok (reason_of setup ch l))

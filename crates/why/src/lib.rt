@@ -9,8 +9,8 @@ ghost use Rattle.why.specs.Why.{reason_of, why_of};
 
 use basics::PLACES;
 use channel::{Channel, Phase};
-use frame::{FramedStore, Setup};
-use refusal::{Refusal, Verdict};
+use frame::Setup;
+use refusal::Refusal;
 
 // What is true of a level, in the order in which it is told. The owner that holds and the winner are named.
 #[derive(Clone, Copy)]
@@ -24,14 +24,7 @@ pub enum Reason {
     WinsNext,
 }
 
-// The reason, or that the call was refused.
-#[derive(Clone, Copy)]
-pub struct Told {
-    pub reason: Reason,
-    pub verdict: Verdict,
-}
-
-// The number of a reason: its place in the order.
+// The number of a reason: its place in the order. A match, as two reasons have to be able to get one number in a wrong program (must-fail/second_answers).
 pub fn reason_number(reason: Reason) -> u8
     ensures { result ≡ reason_number reason }
 {
@@ -51,13 +44,9 @@ pub fn reason_level(reason: Reason) -> u8
     ensures { result ≡ reason_level reason }
 {
     match reason {
-        Reason::NotPresent => 0,
-        Reason::NoRequest => 0,
-        Reason::Owns => 0,
-        Reason::Inactive => 0,
         Reason::Holds(owner) => owner,
         Reason::Outranked(winner) => winner,
-        Reason::WinsNext => 0,
+        _ => 0,
     }
 }
 
@@ -67,46 +56,39 @@ fn is_owner(phase: Phase, level: u32) -> bool
 {
     match phase {
         Phase::Arbitrating => false,
-        Phase::Granted(owner) => owner as u32 == level,
+        Phase::Granted(owner) => u32::from(owner) == level,
     }
 }
 
 // The level is marked inactive. A number that is no level has no mark.
-fn is_marked(channel: Channel, level: usize) -> bool
-    ensures { result ≡ is_inactive channel.inactive level }
+fn is_marked(inactive: &[bool; PLACES], level: usize) -> bool
+    ensures { result ≡ is_inactive inactive.now level }
 {
-    if PLACES <= level {
-        return false;
-    }
-    channel.inactive[level]
+    inactive.get(level).copied().unwrap_or(false)
 }
 
 // Some level owns the channel.
 fn is_held(phase: Phase) -> bool
     ensures { result ≡ not (is_arbitrating phase) }
 {
-    match phase {
-        Phase::Arbitrating => false,
-        Phase::Granted(_) => true,
-    }
+    matches!(phase, Phase::Granted(_))
 }
 
 // The first that is true. All is looked up before the first test, so that the tests stand in the order of the reasons, one
 // below the other. A test may rely on those above it.
+#[tactic(auto, unfolding(crate::specs::Why::reason_of, crate::specs::Reason::outranks, channel::specs::Line::waits))]
 fn reason_of(setup: Setup, channel: Channel, level: u32) -> Reason
     ensures { result ≡ reason_of setup channel level }
 {
-    let levels = setup.levels;
-    let phase = channel.phase;
     let request = channel::request_of(channel, level as usize);
-    let owner = channel::owner_of(phase);
+    let owner = channel::owner_of(channel.phase);
     let winner = channel::winner_from(&channel.left, &channel.inactive, 0);
-    let absent = !frame::is_present(levels, level);
+    let absent = !frame::is_present(setup.levels, level);
     let none = request.left == 0;
-    let owning = is_owner(phase, level);
-    let marked = is_marked(channel, level as usize);
-    let held = is_held(phase);
-    let outranked = winner as u32 != level;
+    let owning = is_owner(channel.phase, level);
+    let marked = is_marked(&channel.inactive, level as usize);
+    let held = is_held(channel.phase);
+    let outranked = u32::from(winner) != level;
     if absent {
         return Reason::NotPresent;
     }
@@ -128,22 +110,11 @@ fn reason_of(setup: Setup, channel: Channel, level: u32) -> Reason
     Reason::WinsNext
 }
 
-// Why a level waits, or that it doesn't. A refused call tells the first reason, which then means nothing.
-pub fn why(setup: Setup, channel: Channel, level: u32) -> Told
+// Why a level waits, or that it doesn't.
+#[tactic(auto, unfolding(crate::specs::Why::why_of, sound::specs::Sound::sound_store))]
+pub fn why(setup: Setup, channel: Channel, level: u32) -> Result<Reason, Refusal>
     ensures { result ≡ why_of setup channel level }
 {
-    let store = sound::sound_store(setup, channel);
-    match store {
-        FramedStore::Broken => Told {
-            reason: Reason::NotPresent,
-            verdict: Verdict::Refused(Refusal::Unsound),
-        },
-        FramedStore::Length(_) => {
-            let reason = reason_of(setup, channel, level);
-            Told {
-                reason: reason,
-                verdict: Verdict::Accepted,
-            }
-        }
-    }
+    sound::sound_store(setup, channel).ok_or(Refusal::Unsound)?;
+    Ok(reason_of(setup, channel, level))
 }

@@ -14,12 +14,9 @@ fn put_words(out: &mut [u8], at: usize, words: &[u8]) -> usize
     ensures value { result ≡ at + length words.now }
     ensures out_after { out.new ≡ sets out.old at words.now }
 {
-    let mut i: usize = 0;
-    while i < words.len() {
-        out[at + i] = words[i];
-        i += 1;
-    }
-    at + i
+    let end = at + words.len();
+    out[at..end].copy_from_slice(words);
+    end
 }
 
 // Words and then a number.

@@ -8,7 +8,7 @@ use Rattle.channel.proofs.line_active.Goals as goal
 
 pub loop-level-init : goal.loop-level-init
 unfolding any_below
-loop-level-init c = (omega arith, refl)
+loop-level-init c = refl
 
 pub returns-then-left-level : goal.returns-then-left-level
 unfolding line_active drives
@@ -20,10 +20,10 @@ pub loop-level-preserved : goal.loop-level-preserved
 unfolding drives
 loop-level-preserved c =
     let l = c.loop-level in
-    (omega arith, any_more _ l.level l.invariant.1 c.if-left-level.false)
+    any_more _ l.level l.invariant c.if-left-level.false
 
 pub returns : goal.returns
 unfolding line_active
 returns c =
     let e : c.loop-level.level ≡ places = omega arith in
-    rw (← c.owner_of-owner.ensures) (sym (rw e at c.loop-level.invariant.1))
+    rw (← c.owner_of-owner.ensures) (sym (rw e at c.loop-level.invariant))

@@ -1,5 +1,3 @@
-use Prim.Native.Nat.{◌-◌, ◌≤◌}
-use Rattle.basics.specs.Limits.{places}
 use Rattle.basics.specs.Scan.{any_below}
 use Rattle.channel.specs.Line.{drives}
 use mathlib.Core.Bool.{false}
@@ -7,7 +5,4 @@ use mathlib.Core.Path.{◌≡◌}
 use Rattle.channel.proofs.line_active.Given as goal
 
 abbrev pub invariant-loop-level : goal.invariant-loop-level
-invariant-loop-level l = (l.level ≤ places) × (any_below (drives l.left l.inactive l.owner) l.level ≡ false)
-
-abbrev pub decreases-loop-level : goal.decreases-loop-level
-decreases-loop-level l = places - l.level
+invariant-loop-level l = any_below (drives l.left l.inactive l.owner) l.level ≡ false

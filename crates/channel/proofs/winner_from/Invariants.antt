@@ -8,6 +8,3 @@ use Rattle.channel.proofs.winner_from.Given as goal
 abbrev pub invariant-loop-level : goal.invariant-loop-level
 invariant-loop-level l =
     first_from (waits l.left l.inactive) l.level (places - l.level) system_master ≡ winner_from l.left l.inactive l.low
-
-abbrev pub decreases-loop-level : goal.decreases-loop-level
-decreases-loop-level l = places - l.level

@@ -16,4 +16,4 @@ pub bounds-place : goal.bounds-place
 bounds-place c = omega (arith, port_some c.args.q c.requires.q_value)
 
 pub returns : goal.returns
-returns c = rw (c.wide.ensures, c.smaller-capped.ensures) (tabled_rule _ _ _ c.requires.q_value c.requires.r_nonzero)
+returns c = rw (c.from.ensures, c.smaller-capped.ensures) (tabled_rule _ _ _ c.requires.q_value c.requires.r_nonzero)

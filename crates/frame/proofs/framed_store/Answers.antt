@@ -1,8 +1,8 @@
 use mathlib.Core.Path.{◌≡◌, ◌∙◌}
 use mathlib.Core.Bool.{true, false, ◌&&◌, and-true, and-false}
+use Rattle.std.specs.Prelude.{None}
 use Rattle.basics.proofs.Tests.{by_test, and_left, and_right}
 use Rattle.frame.specs.declared.Setup.{Setup}
-use Rattle.frame.specs.declared.FramedStore.TheVariants.{Broken}
 use Rattle.frame.specs.Find.{store_if, framed_store}
 use Rattle.frame.specs.Frame.{levels_fit, slaves_fit, is_master_length, is_framed}
 use Rattle.frame.proofs.framed_store.Goals as goal
@@ -15,7 +15,7 @@ whole setup e =
     let m : is_master_length setup.master ≡ true = and_right (levels_fit setup.levels) _ e in
     rw (l, m, and-true (slaves_fit setup.slaves))
 
-part : (setup : Setup) → (levels_fit setup.levels && is_master_length setup.master) ≡ false → Broken ≡ framed_store setup
+part : (setup : Setup) → (levels_fit setup.levels && is_master_length setup.master) ≡ false → None ≡ framed_store setup
 unfolding framed_store is_framed
 part setup e =
     by_test (levels_fit setup.levels)

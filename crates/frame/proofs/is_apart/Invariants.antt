@@ -1,4 +1,4 @@
-use Prim.Native.Nat.{ℕ, ◌-◌, ◌≤◌}
+use Prim.Native.Nat.{ℕ}
 use Rattle.basics.specs.Scan.{all_below}
 use Rattle.frame.specs.Frame.{are_apart, slave_at}
 use mathlib.Core.Bool.{true}
@@ -6,7 +6,4 @@ use mathlib.Core.Path.{◌≡◌}
 use Rattle.frame.proofs.is_apart.Given as goal
 
 abbrev pub invariant-loop-j : goal.invariant-loop-j
-invariant-loop-j l = (l.j ≤ l.i) × (all_below (λ (k : ℕ). are_apart (slave_at l.slaves k) l.row) l.j ≡ true)
-
-abbrev pub decreases-loop-j : goal.decreases-loop-j
-decreases-loop-j l = l.i - l.j
+invariant-loop-j l = all_below (λ (k : ℕ). are_apart (slave_at l.slaves k) l.row) l.j ≡ true

@@ -1,9 +1,14 @@
-use mathlib.Core.Path.{sym, ◌∙◌}
-use Rattle.frame.proofs.SlaveLaws.{store_broken, store_length}
+use mathlib.Core.Path.{◌≡◌}
+use Rattle.std.specs.Option.{is_some}
+use Rattle.basics.proofs.Tests.{by_test}
+use Rattle.frame.specs.declared.Setup.{Setup}
+use Rattle.frame.specs.Frame.{is_framed}
+use Rattle.frame.specs.Find.{framed_store}
 use Rattle.frame.proofs.is_framed.Goals as goal
 
-pub returns-in-Broken : goal.returns-in-Broken
-returns-in-Broken c = sym (store_broken _ (sym c.framed_store-store.ensures ∙ c.in-Broken.is))
+framed_some : (setup : Setup) → is_some (framed_store setup) ≡ is_framed setup
+unfolding framed_store
+framed_some setup = by_test (is_framed setup) (λ t. rw t) (λ f. rw f)
 
-pub returns-in-Length : goal.returns-in-Length
-returns-in-Length c = sym (store_length _ _ (sym c.framed_store-store.ensures ∙ c.in-Length.is)).0
+pub returns : goal.returns
+returns c = rw (c.is_some.ensures, c.framed_store.ensures) (framed_some c.args.setup)

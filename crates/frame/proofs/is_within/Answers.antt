@@ -5,12 +5,12 @@ use mathlib.Core.Path.{sym}
 use native.Mathlib.Omega.{arith}
 use Rattle.frame.proofs.is_within.Goals as goal
 
-pub returns-then-latest-clock : goal.returns-then-latest-clock
+pub returns-then-latest-now : goal.returns-then-latest-now
 unfolding is_within
-returns-then-latest-clock c = sym (sum_beyond _ _ _ c.if-latest-clock.true)
+returns-then-latest-now c = sym (sum_beyond _ _ _ (omega arith))
 
 pub returns : goal.returns
 unfolding is_within
 returns c =
     let a = c.args in
-    sum_within a.duration a.clock (a.t + a.allowed) (omega arith)
+    rw (c.from-now.ensures, c.from.ensures, c.from-2.ensures) (sum_within a.duration a.clock (a.t + a.allowed) (omega arith))

@@ -4,11 +4,11 @@ use mathlib.Core.Path.{refl}
 use native.Mathlib.Omega.{arith}
 use Rattle.frame.proofs.lengths_before.Goals as goal
 
-pub loop-j-init : goal.loop-j-init
+pub loop-k-init : goal.loop-k-init
 unfolding lengths_before
-loop-j-init c = (omega arith, refl, omega arith)
+loop-k-init c = (refl, omega arith)
 
-pub loop-j-preserved : goal.loop-j-preserved
-loop-j-preserved c =
-    let l = c.loop-j in
-    (omega arith, rw (before_more _ l.j, l.invariant.1), omega arith)
+pub loop-k-preserved : goal.loop-k-preserved
+loop-k-preserved c =
+    let l = c.loop-k in
+    (rw (before_more _ l.k, l.invariant.0), omega arith)

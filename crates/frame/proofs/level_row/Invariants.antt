@@ -9,8 +9,5 @@ use Rattle.frame.proofs.level_row.Given as goal
 
 abbrev pub invariant-loop-i : goal.invariant-loop-i
 invariant-loop-i l =
-    (l.i ≤ l.count) × (l.count ≤ rows_most)
+    (l.count ≤ rows_most)
     × (first_from (λ (k : ℕ). eqb (level_at l.levels k).level l.level) l.i (l.count - l.i) no_row ≡ level_index l.levels l.level)
-
-abbrev pub decreases-loop-i : goal.decreases-loop-i
-decreases-loop-i l = l.count - l.i

@@ -12,4 +12,4 @@ returns-then-i-ge-ROWS_MOST c =
     sym (no_level_fits c.args.levels c.args.i (omega arith))
 
 pub returns : goal.returns
-returns c = rw (c.level_fits.ensures, c.place_before.ensures, level_fits_is)
+returns c = rw (c.level_fits.ensures, c.saturating_sub.ensures, level_fits_is)

@@ -8,7 +8,4 @@ use Rattle.frame.proofs.levels_fit.Given as goal
 
 abbrev pub invariant-loop-i : goal.invariant-loop-i
 invariant-loop-i l =
-    (l.i ≤ l.count) × (l.count ≤ rows_most) × (l.before ≡ (level_at l.levels (l.i - 1)).level) × (all_below (level_row_fits l.levels) l.i ≡ true)
-
-abbrev pub decreases-loop-i : goal.decreases-loop-i
-decreases-loop-i l = l.count - l.i
+    (l.count ≤ rows_most) × (l.before ≡ (level_at l.levels (l.i - 1)).level) × (all_below (level_row_fits l.levels) l.i ≡ true)

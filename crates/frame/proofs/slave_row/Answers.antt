@@ -10,27 +10,26 @@ use Rattle.frame.proofs.slave_row.Goals as goal
 
 pub loop-i-init : goal.loop-i-init
 unfolding slave_index lengths_before
-loop-i-init c = (omega (arith, c.rows_present-count.ensures), omega arith, refl, omega arith, rw (sub-zero, c.rows_present-count.ensures))
+loop-i-init c = (omega (arith, c.rows_present-count.ensures), refl, omega arith, rw (sub-zero, c.rows_present-count.ensures))
 
 pub returns-then-row_holds : goal.returns-then-row_holds
 returns-then-row_holds c =
     let l = c.loop-i in record {
-      value = rw l.invariant.2 (slave_hit _ _ _ _ l.i _ l.invariant.4 (omega arith) l.invariant.1 (sym c.row_holds.ensures ∙ c.if-row_holds.true));
+      value = rw l.invariant.1 (slave_hit _ _ _ _ l.i _ l.invariant.3 (omega arith) l.invariant.0 (sym c.row_holds.ensures ∙ c.if-row_holds.true));
       start_fits = omega arith;
     }
 
 pub loop-i-preserved : goal.loop-i-preserved
 loop-i-preserved c =
     let l = c.loop-i in (
+      l.invariant.0,
+      rw (before_more _ l.i, l.invariant.1),
       omega arith,
-      l.invariant.1,
-      rw (before_more _ l.i, l.invariant.2),
-      omega arith,
-      sym (first_miss _ l.i _ no_row (omega arith) (sym c.row_holds.ensures ∙ c.if-row_holds.false)) ∙ l.invariant.4,
+      sym (first_miss _ l.i _ no_row (omega arith) (sym c.row_holds.ensures ∙ c.if-row_holds.false)) ∙ l.invariant.3,
     )
 
 pub returns : goal.returns
 returns c = record {
-  value = slave_none _ _ _ _ c.loop-i.i _ c.loop-i.invariant.4 (omega arith);
+  value = slave_none _ _ _ _ c.loop-i.i _ c.loop-i.invariant.3 (omega arith);
   start_fits = tt;
 }

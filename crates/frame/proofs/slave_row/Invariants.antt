@@ -8,8 +8,5 @@ use Rattle.frame.proofs.slave_row.Given as goal
 
 abbrev pub invariant-loop-i : goal.invariant-loop-i
 invariant-loop-i l =
-    (l.i ≤ l.count) × (l.count ≤ rows_most) × (l.start ≡ lengths_before l.slaves l.i) × (l.start ≤ l.i * 4294967295)
+    (l.count ≤ rows_most) × (l.start ≡ lengths_before l.slaves l.i) × (l.start ≤ l.i * 4294967295)
     × (first_from (λ (k : ℕ). row_holds (slave_at l.slaves k) l.space l.address l.n) l.i (l.count - l.i) no_row ≡ slave_index l.slaves l.space l.address l.n)
-
-abbrev pub decreases-loop-i : goal.decreases-loop-i
-decreases-loop-i l = l.count - l.i

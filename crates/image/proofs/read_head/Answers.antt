@@ -10,8 +10,7 @@ use Rattle.image.proofs.read_head.Goals as goal
 pub returns-then-list-gt-HEAD_NUMBERS : goal.returns-then-list-gt-HEAD_NUMBERS
 returns-then-list-gt-HEAD_NUMBERS c =
     let a = c.args in
-    c.malformed.ensures
-    ∙ head_long a.list.now a.master (λ i. omega (arith, c.shared_slice_known-1.given i)) (omega arith) (omega arith)
+    head_long a.list.now a.master (λ i. omega (arith, c.type_inv.list i)) (omega arith) (omega arith)
 
 pub slice_bounds-bytes-end : goal.slice_bounds-bytes-end
 slice_bounds-bytes-end c =

@@ -4,57 +4,50 @@ use Rattle.number.proofs.LoopLaws.{first_turn, no_turn, fifth_turn, fifth_fits, 
 use Rattle.number.proofs.more_groups.Goals as goal
 
 pub loop-at-init : goal.loop-at-init
-loop-at-init c = let a = c.args in (omega arith, first_turn a.s.now a.start a.first (omega arith))
+loop-at-init c = let a = c.args in first_turn a.s.now a.start a.first (omega arith)
 
 pub returns-then-byte : goal.returns-then-byte
 returns-then-byte c =
-    let l = c.loop-at in
-    rw c.if-byte.true at (fifth_turn l.invariant.1 c.if-weight-eq268435456.true (omega arith))
+    rw c.if-byte.true at (fifth_turn c.loop-at.invariant c.if-weight-eq268435456.true c.from-byte.ensures (omega arith))
 
 pub overflow_add-result : goal.overflow_add-result
-overflow_add-result c = omega (arith, fifth_fits c.loop-at.invariant.1 c.if-weight-eq268435456.true c.if-byte.false)
+overflow_add-result c = omega (arith, fifth_fits c.loop-at.invariant c.if-weight-eq268435456.true c.from-byte.ensures c.if-byte.false)
 
 pub returns-then-weight-eq268435456 : goal.returns-then-weight-eq268435456
 returns-then-weight-eq268435456 c =
-    let l = c.loop-at in
-    rw c.if-byte.false at (fifth_turn l.invariant.1 c.if-weight-eq268435456.true (omega arith))
+    rw c.if-byte.false at (fifth_turn c.loop-at.invariant c.if-weight-eq268435456.true c.from-byte.ensures (omega arith))
 
 pub returns-then-byte-eq0 : goal.returns-then-byte-eq0
 returns-then-byte-eq0 c =
-    let l = c.loop-at in
-    rw (eq-eqb _ 0 c.if-byte-eq0.true) at (last_turn l.invariant.1 c.if-weight-eq268435456.false (omega arith) c.if-byte-lt128.true)
+    rw (eq-eqb _ 0 c.if-byte-eq0.true)
+    at (last_turn c.loop-at.invariant c.if-weight-eq268435456.false c.from-byte.ensures (omega arith) c.if-byte-lt128.true)
 
 pub overflow_mul-result-then-byte-lt128 : goal.overflow_mul-result-then-byte-lt128
-overflow_mul-result-then-byte-lt128 c = omega (arith, last_fits c.loop-at.invariant.1 c.if-weight-eq268435456.false c.if-byte-lt128.true)
+overflow_mul-result-then-byte-lt128 c =
+    omega (arith, last_fits c.loop-at.invariant c.if-weight-eq268435456.false c.from-byte.ensures c.if-byte-lt128.true)
 
 pub overflow_add-result-then-byte-lt128 : goal.overflow_add-result-then-byte-lt128
-overflow_add-result-then-byte-lt128 c = omega (arith, last_fits c.loop-at.invariant.1 c.if-weight-eq268435456.false c.if-byte-lt128.true)
+overflow_add-result-then-byte-lt128 c =
+    omega (arith, last_fits c.loop-at.invariant c.if-weight-eq268435456.false c.from-byte.ensures c.if-byte-lt128.true)
 
 pub returns-then-byte-lt128 : goal.returns-then-byte-lt128
 returns-then-byte-lt128 c =
-    let l = c.loop-at in
-    rw (ne_eqb _ 0 c.if-byte-eq0.false) at (last_turn l.invariant.1 c.if-weight-eq268435456.false (omega arith) c.if-byte-lt128.true)
+    rw (ne_eqb _ 0 c.if-byte-eq0.false)
+    at (last_turn c.loop-at.invariant c.if-weight-eq268435456.false c.from-byte.ensures (omega arith) c.if-byte-lt128.true)
 
 pub overflow_mul-low : goal.overflow_mul-low
-overflow_mul-low c =
-    let l = c.loop-at in
-    let byte = c.shared_slice_known-1.given l.at in
-    omega (arith, next_fits l.invariant.1 c.if-weight-eq268435456.false (omega arith))
+overflow_mul-low c = omega (arith, next_fits c.loop-at.invariant c.if-weight-eq268435456.false c.from-byte.ensures (omega (arith, c.type_inv.s c.loop-at.at)))
 
 pub overflow_add-low : goal.overflow_add-low
-overflow_add-low c =
-    let l = c.loop-at in
-    let byte = c.shared_slice_known-1.given l.at in
-    omega (arith, next_fits l.invariant.1 c.if-weight-eq268435456.false (omega arith))
+overflow_add-low c = omega (arith, next_fits c.loop-at.invariant c.if-weight-eq268435456.false c.from-byte.ensures (omega (arith, c.type_inv.s c.loop-at.at)))
 
 pub overflow_mul-weight : goal.overflow_mul-weight
-overflow_mul-weight c = omega (arith, weight_fits c.loop-at.invariant.1 c.if-weight-eq268435456.false)
+overflow_mul-weight c = omega (arith, weight_fits c.loop-at.invariant c.if-weight-eq268435456.false)
 
 pub loop-at-preserved : goal.loop-at-preserved
 loop-at-preserved c =
-    let l = c.loop-at in
-    let byte = c.shared_slice_known-1.given l.at in
-    (omega arith, next_turn l.invariant.1 c.if-weight-eq268435456.false (omega arith) c.if-byte-lt128.false (omega arith))
+    next_turn c.loop-at.invariant c.if-weight-eq268435456.false c.from-byte.ensures (omega arith) c.if-byte-lt128.false
+    (omega (arith, c.type_inv.s c.loop-at.at))
 
 pub returns : goal.returns
-returns c = no_turn c.loop-at.invariant.1 c.loop-at-test.false
+returns c = no_turn c.loop-at.invariant (omega arith)

@@ -11,10 +11,10 @@ pub returns-then-byte-lt128 : goal.returns-then-byte-lt128
 unfolding read_number
 returns-then-byte-lt128 c =
     let a = c.args in
-    sym (last a.at a.at a.s.now 4 (omega arith) (omega arith) c.if-byte-lt128.true)
+    rw c.from-byte.ensures (sym (last a.at a.at a.s.now 4 (omega arith) (omega arith) (omega arith)))
 
 pub returns : goal.returns
 unfolding read_number
 returns c =
     let a = c.args in
-    c.more_groups.ensures ∙ sym (more a.at a.at a.s.now 4 _ (omega arith) (omega arith) c.if-byte-lt128.false refl)
+    rw c.from-byte.ensures at c.more_groups.ensures ∙ sym (more a.at a.at a.s.now 4 _ (omega arith) (omega arith) (omega arith) refl)

@@ -2,7 +2,7 @@ use mathlib.Core.Path.{sym, ap, ◌∙◌}
 use native.Mathlib.Omega.{arith}
 use borrow.Author.Tests.{leb-true, leb-false}
 use lib.ListN.{length}
-use Rattle.number.specs.declared.NumberWritten.TheVariants.{Past}
+use Rattle.std.specs.Prelude.{Ok}
 use Rattle.number.specs.Number.{bytes_of}
 use Rattle.number.proofs.Laws.{bytes_some, byte_written, written, not_written}
 use Rattle.number.proofs.write_number.Goals as goal
@@ -37,11 +37,11 @@ returns-then-out-at c =
 pub returns-then-has_room : goal.returns-then-has_room
 returns-then-has_room c =
     let a = c.args in
-    let put = c.put_number-past.ensures in
+    let put = c.put_number.ensures in
     let room = leb-true (length (bytes_of a.v)) _ (sym c.has_room.ensures ∙ c.if-has_room.true) in
     let w = written a.out.now a.at a.v (omega (arith, room)) in
     record {
-      value = ap Past put.value ∙ sym w.0;
+      value = ap Ok put.value ∙ sym w.0;
       out_after = put.out_after ∙ sym w.1;
     }
 

@@ -1,11 +1,11 @@
-use Prim.Native.Nat.{◌+◌, ◌-◌, ◌*◌, ◌≤◌}
-use Rattle.numbers.specs.Numbers.{all_bytes}
+use Prim.Native.Nat.{◌+◌, ◌*◌, ◌≤◌}
 use lib.ListN.{length, drop}
 use mathlib.Core.Path.{◌≡◌}
+use Rattle.numbers.specs.Numbers.{all_bytes}
 use Rattle.numbers.proofs.bytes_size.Given as goal
 
-abbrev pub invariant-loop-i : goal.invariant-loop-i
-invariant-loop-i l = (l.i ≤ length l.list) × (l.sum ≤ 5 * l.i) × (l.sum + length (all_bytes (drop l.i l.list)) ≡ length (all_bytes l.list))
-
-abbrev pub decreases-loop-i : goal.decreases-loop-i
-decreases-loop-i l = length l.list - l.i
+abbrev pub invariant-loop-v : goal.invariant-loop-v
+invariant-loop-v l = record {
+  most : l.sum ≤ 5 * l.v-index;
+  rest : l.sum + length (all_bytes (drop l.v-index l.list)) ≡ length (all_bytes l.list);
+}

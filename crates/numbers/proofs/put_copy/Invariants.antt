@@ -1,17 +1,18 @@
 use Prim.Native.Nat.{◌+◌, ◌-◌, ◌≤◌}
-use Rattle.number.specs.Number.{read_number}
-use Rattle.numbers.specs.Numbers.{numbers, numbers_of}
 use lib.ListN.{length}
 use lib.Seq.{sets}
 use mathlib.Core.Path.{◌≡◌}
+use Rattle.number.specs.Number.{read_number}
+use Rattle.numbers.specs.Numbers.{numbers, numbers_of}
 use Rattle.numbers.proofs.put_copy.Given as goal
 
-abbrev pub invariant-loop-at : goal.invariant-loop-at
-invariant-loop-at l =
-    (l.i ≤ l.at) × (l.at ≤ length l.bytes)
-    × (l.i + length (numbers (read_number l.bytes) (length l.bytes - l.i) l.at) ≡ length (numbers_of l.bytes))
-    × (sets l.out l.i (numbers (read_number l.bytes) (length l.bytes - l.i) l.at) ≡ sets l.initial.out 0 (numbers_of l.bytes))
-    × (length l.out ≡ length l.initial.out)
+abbrev pub invariant-loop-v : goal.invariant-loop-v
+invariant-loop-v l = record {
+  most : l.i ≤ l.at;
+  inside : l.at ≤ length l.bytes;
+  count : l.i + length (numbers (read_number l.bytes) (length l.bytes - l.i) l.at) ≡ length (numbers_of l.bytes);
+  rest : sets l.out l.i (numbers (read_number l.bytes) (length l.bytes - l.i) l.at) ≡ sets l.initial.out 0 (numbers_of l.bytes);
+}
 
-abbrev pub decreases-loop-at : goal.decreases-loop-at
-decreases-loop-at l = length l.bytes - l.at
+abbrev pub decreases-loop-v : goal.decreases-loop-v
+decreases-loop-v l = length l.bytes - l.at

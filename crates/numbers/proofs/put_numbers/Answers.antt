@@ -1,34 +1,26 @@
-use Prim.Native.Nat.{◌<◌}
-use Rattle.number.proofs.Laws.{written}
-use Rattle.numbers.proofs.Laws.{size_on, written_on, past_is, no_room}
 use lib.ListN.{length, get_or}
+use Prim.Native.Nat.{◌<◌}
 use mathlib.Core.Path.{sym, ◌∙◌}
 use native.Mathlib.Omega.{arith}
+use Rattle.number.proofs.Laws.{written}
+use Rattle.numbers.proofs.Laws.{size_on, written_on, past_is}
 use Rattle.numbers.proofs.put_numbers.Goals as goal
 
-pub loop-i-preserved : goal.loop-i-preserved
-loop-i-preserved c =
-    let a = c.args in
-    let l = c.loop-i in
+pub unwrap-place-requires : goal.unwrap-place-requires
+unwrap-place-requires c =
+    let l = c.loop-v in
     let list = c.args.list.now in
-    let h : l.i < length list = omega arith in
-    let v = get_or list l.i 0 in
-    let w = written l.out l.place v (omega (arith, size_on list l.i h)) in
-    let next = past_is (sym c.in-Past.is ∙ c.write_number-written.ensures.value
-    ∙ w.0) in (
-      omega arith,
-      omega (arith, next, size_on list l.i h),
-      rw (c.write_number-written.ensures.out_after, w.1, next) (written_on list l.i l.place l.out h)
-          ∙ l.invariant.2,
-      c.write_number-written.auto.out ∙ l.invariant.3,
-    )
+    let w = written l.out l.place (get_or list l.v-index 0) (omega (arith, size_on list l.v-index (omega arith))) in
+    rw (c.write_number.ensures.value ∙ w.0)
 
--- there is room, so that no write is refused
-pub returns-in-Refused : goal.returns-in-Refused
-returns-in-Refused c =
-    let l = c.loop-i in
+pub loop-v-preserved : goal.loop-v-preserved
+loop-v-preserved c =
+    let l = c.loop-v in
     let list = c.args.list.now in
-    let h : l.i < length list = omega arith in
-    let v = get_or list l.i 0 in
-    let w = written l.out l.place v (omega (arith, size_on list l.i h)) in
-    no_room (sym c.in-Refused.is ∙ c.write_number-written.ensures.value ∙ w.0)
+    let h : l.v-index < length list = omega arith in
+    let w = written l.out l.place (get_or list l.v-index 0) (omega (arith, size_on list l.v-index h)) in
+    let next = past_is (sym c.unwrap-place.ensures ∙ c.write_number.ensures.value ∙ w.0) in
+    record {
+      size = omega (arith, next, size_on list l.v-index h);
+      rest = rw (c.write_number.ensures.out_after, w.1, next) (written_on list l.v-index l.place l.out h) ∙ l.invariant.rest;
+    }

@@ -7,5 +7,5 @@ use Rattle.sheethost.proofs.digest.Goals as goal
 pub returns : goal.returns
 unfolding digest_of
 returns c =
-    let l = c.loop-i in
-    sym (digest_whole _ l.i l.d (omega arith)) ∙ l.invariant.1
+    let l = c.loop-byte in
+    sym (digest_whole _ l.byte-index l.d (omega arith)) ∙ l.invariant.1

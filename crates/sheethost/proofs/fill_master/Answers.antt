@@ -1,4 +1,3 @@
-use lib.ListN.{length-set}
 use native.Mathlib.Omega.{arith}
 use Rattle.sheethost.proofs.StoreLaws.{master_more}
 use Rattle.sheethost.proofs.fill_master.Goals as goal
@@ -6,4 +5,4 @@ use Rattle.sheethost.proofs.fill_master.Goals as goal
 pub loop-i-preserved : goal.loop-i-preserved
 loop-i-preserved c =
     let l = c.loop-i in
-    (omega arith, simp length-set l.invariant.1, master_more l.master l.i (omega arith) l.invariant.2)
+    master_more l.master l.i (omega arith) l.invariant

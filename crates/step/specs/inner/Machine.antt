@@ -1,30 +1,25 @@
 -- The step as the program takes it: in place, and without the line rule where that has nothing to do. None of this need be believed: the promises speak of
 -- `decision_of`, `step_of` and `run_of` alone, and proofs/MachineLaws shows that this is the same.
-use Rattle.std.specs.Prelude.{ℕ, zero, suc, ◌+◌, ◌-◌, ◌%◌, ◌≤◌, ◌<◌, ◌≡◌, Bool, true, false, cond, not, ◌&&◌, ◌||◌, List, set, replicate, eqb, ltb}
+use Rattle.act.specs.declared.Entry.{Entry}
+use Rattle.std.specs.Prelude.{ℕ, zero, suc, ◌+◌, ◌-◌, ◌%◌, ◌≤◌, ◌<◌, ◌≡◌, Bool, true, false, cond, not, ◌&&◌, ◌||◌, List, set, replicate, eqb, ltb, Err, None, Ok, Option, Result, Some}
 use Rattle.basics.specs.Limits.{places, system_master, clock_limit}
 use Rattle.refusal.specs.Refusal.{refusal_by}
 use Rattle.refusal.specs.declared.Refusal.{Refusal}
-use Rattle.refusal.specs.declared.Verdict.TheVariants.{Refused as Stopped}
 use Rattle.cycle.specs.Cycle.{master_lane, slave_lane}
 use Rattle.frame.specs.declared.Setup.{Setup}
 use Rattle.channel.specs.declared.Phase.{Phase}
 use Rattle.channel.specs.declared.Phase.TheVariants.{Arbitrating, Granted}
-use Rattle.channel.specs.declared.Asked.{Asked}
-use Rattle.channel.specs.declared.Asked.TheVariants.{Never, At}
 use Rattle.channel.specs.declared.Channel.{Channel}
 use Rattle.channel.specs.declared.Request.{Request}
 use Rattle.channel.specs.Channel.{has_request, owner_place, with_request, changed}
 use Rattle.channel.specs.Line.{waits, line_active, winner, asked_if}
 use Rattle.act.specs.declared.Route.{Route}
-use Rattle.act.specs.declared.Hold.TheVariants.{After}
 use Rattle.act.specs.declared.Ending.{Ending}
 use Rattle.act.specs.declared.Entry.TheVariants.{Idle, Grant, Cycle, Release}
 use Rattle.act.specs.Cycle.{route_of, cycle_bytes, cycle_before, cycle_of, is_leaving, ending_of, is_kept, is_marked}
 use Rattle.act.specs.Turn.{arbitration_time}
 use Rattle.tally.specs.declared.Tally.{Tally}
 use Rattle.tally.specs.Tally.{add_grant, add_cycle, add_release}
-use Rattle.step.specs.declared.StepAnswer.{StepAnswer}
-use Rattle.step.specs.declared.StepAnswer.TheVariants.{Done, Refused}
 use Rattle.step.specs.declared.Stepped.{Stepped}
 use Rattle.step.specs.declared.Plan.{Plan}
 use Rattle.step.specs.declared.Plan.TheVariants as plan
@@ -43,11 +38,11 @@ abbrev pub is_inside : ℕ → ℕ → Bool
 is_inside width address = not (eqb (address % width) 0)
 
 -- whether an owner leaves goes by what its cycle has left
-unfoldable pub leaves_at : Route → Asked → ℕ → Request → Bool
+unfoldable pub leaves_at : Route → Option ℕ → ℕ → Request → Bool
 leaves_at route asked clock rest = is_leaving route asked clock (cycle_before route rest 0 rest)
 
 -- what a cycle leaves, and how it ends
-unfoldable pub after_cycle : Route → Asked → ℕ → Request → Left
+unfoldable pub after_cycle : Route → Option ℕ → ℕ → Request → Left
 after_cycle route asked clock q = record { rest = (cycle_of route q).rest; ending = ending_of route asked clock (cycle_of route q) }
 
 -- some of the k numbers from i on satisfies f
@@ -73,11 +68,11 @@ abbrev pub NoneWait : List ℕ → List Bool → ℕ → Type 0
 NoneWait left inactive low = (l : ℕ) → l < low → waits left inactive l ≡ false
 
 -- where a search for the winner may begin
-pub record Search (left : List ℕ) (inactive : List Bool) (base low : ℕ) : Type 0 where
+pub record Search (ch : Channel) (base low : ℕ) : Type 0 where
   pub most : base ≤ system_master
   pub small : low ≤ places
-  pub none : NoneAsk left base
-  pub clear : NoneWait left inactive low
+  pub none : NoneAsk ch.left base
+  pub clear : NoneWait ch.left ch.inactive low
 
 -- the marks after line rule 1
 unfoldable pub marks_left : List ℕ → List Bool → Phase → List Bool
@@ -86,36 +81,28 @@ marks_left left inactive phase = cond (line_active left inactive phase) inactive
 abbrev pub grant_marks : List ℕ → List Bool → List Bool
 grant_marks left inactive = marks_left left inactive (Granted (winner left inactive))
 
--- the winner, the marks and the line after its grant, and where the next search may begin
-pub record IsChosen (left : List ℕ) (before after : List Bool) (base : ℕ) (c : Chosen) : Type 0 where
-  pub won : c.winner ≡ winner left before
-  pub marks : after ≡ grant_marks left before
-  pub active : c.active ≡ line_active left after (Granted (winner left before))
-  pub low : c.low ≤ winner left before
-  pub clear : NoneWait left after c.low
+-- other marks
+abbrev pub marked : Channel → List Bool → Channel
+marked ch marks = changed ch ch.phase ch.asked ch.ever ch.clock marks
 
--- a channel as the program keeps it: what stands by value, whether it was ever granted, and the arrays
-abbrev pub channel_of : Standing → Bool → List Bool → List ℕ → List ℕ → List ℕ → List ℕ → List ℕ → Channel
-channel_of s ever inactive direction space address left offset =
-    record {
-      phase = s.phase;
-      asked = s.asked;
-      ever = ever;
-      clock = s.clock;
-      inactive = inactive;
-      direction = direction;
-      space = space;
-      address = address;
-      left = left;
-      offset = offset;
-    }
+-- the winner, the marks and the line after its grant, and where the next search may begin
+pub record IsChosen (before after : Channel) (base : ℕ) (c : Chosen) : Type 0 where
+  pub won : c.winner ≡ winner before.left before.inactive
+  pub marks : after ≡ marked before (grant_marks before.left before.inactive)
+  pub active : c.active ≡ line_active before.left after.inactive (Granted (winner before.left before.inactive))
+  pub low : c.low ≤ winner before.left before.inactive
+  pub clear : NoneWait before.left after.inactive c.low
+
+-- a channel as the program keeps it: what stands by value, whether it was ever granted, and the arrays of a channel
+abbrev pub channel_of : Standing → Bool → Channel → Channel
+channel_of s ever ch = changed ch s.phase s.asked ever s.clock ch.inactive
 
 abbrev pub standing_of : Channel → Tally → Standing
 standing_of ch t = record { phase = ch.phase; asked = ch.asked; clock = ch.clock; tally = t }
 
 -- refusal 6
 unfoldable pub full_acted : Standing → Acted
-full_acted s = record { standing = s; answer = Refused (refusal_by 6) }
+full_acted s = record { standing = s; answer = Err (refusal_by 6) }
 
 -- the grant, and the line rule's asked time
 unfoldable pub granted_by : Standing → Bool → ℕ → Bool → Acted
@@ -128,22 +115,22 @@ granted_by s ever w active =
             clock = s.clock + arbitration_time ever;
             tally = add_grant s.tally;
           };
-      answer = Done (Grant (s.clock + arbitration_time ever) w);
+      answer = Ok (Grant (s.clock + arbitration_time ever) w);
     }
 
 -- an owner without a request leaves where it is asked, and idles otherwise
-abbrev pub rest_acted : Asked → Standing → ℕ → Acted
-rest_acted Never s o = record { standing = s; answer = Done (Idle s.clock) }
-rest_acted (At t) s o =
+abbrev pub rest_acted : Option ℕ → Standing → ℕ → Acted
+rest_acted None s o = record { standing = s; answer = Ok (Idle s.clock) }
+rest_acted (Some t) s o =
     record {
       standing =
           record {
             phase = Arbitrating;
-            asked = Never;
+            asked = None;
             clock = s.clock;
-            tally = add_release s.tally (After (s.clock - t));
+            tally = add_release s.tally (Some (s.clock - t));
           };
-      answer = Done (Release s.clock o (After (s.clock - t)));
+      answer = Ok (Release s.clock o (Some (s.clock - t)));
     }
 
 -- what stands after a cycle with this ending
@@ -151,7 +138,7 @@ unfoldable pub standing_after : Standing → ℕ → Tally → Ending → Standi
 standing_after s clock t ending =
     record {
       phase = cond (is_kept ending) s.phase Arbitrating;
-      asked = cond (is_kept ending) s.asked Never;
+      asked = cond (is_kept ending) s.asked None;
       clock = clock;
       tally = t;
     }
@@ -161,7 +148,7 @@ cycle_acted route s o q ending =
     record {
       standing = standing_after s (s.clock + route.time) (add_cycle s.tally (cycle_bytes route q) ending) ending;
       answer =
-          Done
+          Ok
           (Cycle
           (record {
             clock = s.clock + route.time;
@@ -197,7 +184,8 @@ decided_by route s ever q left inactive Arbitrating =
     (cond
     (ltb clock_limit (s.clock + arbitration_time ever))
     (full_acted s)
-    (granted_by s ever (winner left inactive) (line_active left (grant_marks left inactive) (Granted (winner left inactive)))))
+    (granted_by s ever (winner left inactive)
+    (line_active left (grant_marks left inactive) (Granted (winner left inactive)))))
     q
 decided_by route s ever q left inactive (Granted o) =
     cond
@@ -206,9 +194,13 @@ decided_by route s ever q left inactive (Granted o) =
     (cond (ltb clock_limit (s.clock + route.time)) (stay_of (full_acted s) q) (cycle_decided route s o q))
 
 abbrev pub marks_by : Route → Standing → Bool → Request → List ℕ → List Bool → Phase → List Bool
-marks_by route s ever q left inactive Arbitrating = cond (ltb clock_limit (s.clock + arbitration_time ever)) inactive (grant_marks left inactive)
+marks_by route s ever q left inactive Arbitrating =
+    cond (ltb clock_limit (s.clock + arbitration_time ever)) inactive (grant_marks left inactive)
 marks_by route s ever q left inactive (Granted o) =
-    cond (eqb q.left 0) inactive (cond (ltb clock_limit (s.clock + route.time)) inactive (cycle_marks route s o q inactive))
+    cond
+    (eqb q.left 0)
+    inactive
+    (cond (ltb clock_limit (s.clock + route.time)) inactive (cycle_marks route s o q inactive))
 
 unfoldable pub decided_of : Route → Standing → Bool → Request → List ℕ → List Bool → Decided
 decided_of route s ever q left inactive = decided_by route s ever q left inactive s.phase
@@ -229,30 +221,30 @@ abbrev pub route_for : Setup → ℕ → Request → Route
 route_for setup o q = cond (eqb q.left 0) no_route (route_of setup o q)
 
 -- what a step does, read off its answer
-abbrev pub plan_in : StepAnswer → Plan
-plan_in (Refused why) = plan.Refused why
-plan_in (Done (Idle clock)) = plan.Idle
-plan_in (Done (Grant clock winner)) = plan.Grant winner
-plan_in (Done (Cycle e)) = plan.Cycle e.level
-plan_in (Done (Release clock level hold)) = plan.Leave level
+abbrev pub plan_in : Result Entry Refusal → Plan
+plan_in (Err why) = plan.Refused why
+plan_in (Ok (Idle clock)) = plan.Idle
+plan_in (Ok (Grant clock winner)) = plan.Grant winner
+plan_in (Ok (Cycle e)) = plan.Cycle e.level
+plan_in (Ok (Release clock level hold)) = plan.Leave level
 
 -- a decision, by the plan
 abbrev pub decision_by : Setup → Channel → Tally → Plan → Decision
 decision_by setup ch t p = record { stepped = tallied t (advanced_by setup ch p); carry = carry_by setup ch p }
 
 abbrev pub refused_decision : Channel → Tally → Refusal → Decision
-refused_decision ch t why = record { stepped = record { channel = ch; tally = t; answer = Refused why }; carry = no_carry }
+refused_decision ch t why = record { stepped = record { channel = ch; tally = t; answer = Err why }; carry = no_carry }
 
-abbrev pub refused_run : Channel → Tally → Refusal → Ran
-refused_run ch t why = record { channel = ch; tally = t; steps = 0; verdict = Stopped why }
+abbrev pub no_steps : Channel → Tally → Result Unit Refusal → Ran
+no_steps ch t verdict = record { channel = ch; tally = t; steps = 0; verdict = verdict }
 
-abbrev pub refused_log : Channel → Tally → Refusal → ℕ → Logged
-refused_log ch t why at = record { ran = refused_run ch t why; end = at }
+abbrev pub no_lines : Channel → Tally → Result Unit Refusal → ℕ → Logged
+no_lines ch t verdict at = record { ran = no_steps ch t verdict; end = at }
 
 -- the channel after a decided step: one that was done leaves it granted, whatever it was, since none but a grant is done before the first
-abbrev pub ever_by : StepAnswer → Bool → Bool
-ever_by (Done entry) ever = true
-ever_by (Refused why) ever = ever
+abbrev pub ever_by : Result Entry Refusal → Bool → Bool
+ever_by (Ok entry) ever = true
+ever_by (Err why) ever = ever
 
 abbrev pub channel_by : Channel → Decided → List Bool → Channel
 channel_by ch d marks =

@@ -1,14 +1,13 @@
 -- How a run goes on in turns: a grant, a release or an idle step, or all cycles of one owner. None of this need be believed: the promise of `run` speaks of
 -- `run_of` alone, and proofs/TurnLaws shows that a turn takes the steps of `run_from`.
-use Rattle.std.specs.Prelude.{ℕ, zero, suc, ◌+◌, ◌-◌, ◌≤◌, ◌<◌, ◌≡◌, Bool, true, false, cond, ◌||◌, List, length, get_or, eqb, ltb}
+use Rattle.act.specs.declared.Entry.{Entry}
+use Rattle.refusal.specs.declared.Refusal.{Refusal}
+use Rattle.std.specs.Prelude.{ℕ, zero, suc, ◌+◌, ◌-◌, ◌≤◌, ◌<◌, ◌≡◌, Bool, true, false, cond, ◌||◌, List, length, get_or, eqb, ltb, Err, Ok, Option, Result}
 use Rattle.basics.specs.Limits.{places, system_master, clock_limit, steps_most}
-use Rattle.refusal.specs.Refusal.{refusal_by}
-use Rattle.refusal.specs.declared.Verdict.{Verdict}
-use Rattle.refusal.specs.declared.Verdict.TheVariants.{Accepted, Refused}
+use Rattle.refusal.specs.Refusal.{accepted, refusal_by}
 use Rattle.frame.specs.declared.Setup.{Setup}
 use Rattle.channel.specs.declared.Phase.{Phase}
 use Rattle.channel.specs.declared.Phase.TheVariants.{Arbitrating, Granted}
-use Rattle.channel.specs.declared.Asked.{Asked}
 use Rattle.channel.specs.declared.Channel.{Channel}
 use Rattle.channel.specs.declared.Request.{Request}
 use Rattle.channel.specs.Channel.{owner_of, owner_place, request_of, with_request}
@@ -18,8 +17,6 @@ use Rattle.act.specs.declared.Ending.TheVariants.{Kept}
 use Rattle.act.specs.Cycle.{route_of, cycle_bytes, cycle_of, ending_of, is_kept, clocked, ended_by}
 use Rattle.tally.specs.declared.Tally.{Tally}
 use Rattle.tally.specs.Tally.{add_cycle}
-use Rattle.step.specs.declared.StepAnswer.{StepAnswer}
-use Rattle.step.specs.declared.StepAnswer.TheVariants.{Done, Refused as NotDone}
 use Rattle.step.specs.declared.acts.Acted.{Acted}
 use Rattle.step.specs.declared.acts.Standing.{Standing}
 use Rattle.step.specs.declared.acts.Decided.{Decided}
@@ -42,11 +39,10 @@ pub record Running : Type 0 where
   pub master : List ℕ
 
 -- as the program keeps it: what stands by value, the channel's arrays, and the stores
-abbrev pub running_by
-    : Standing → Bool → ℕ → Bool → List Bool → List ℕ → List ℕ → List ℕ → List ℕ → List ℕ → List ℕ → List ℕ → Running
-running_by standing ever done full inactive direction space address left offset slave master =
+abbrev pub running_by : Standing → Bool → ℕ → Bool → Channel → List ℕ → List ℕ → Running
+running_by standing ever done full ch slave master =
     record {
-      channel = channel_of standing ever inactive direction space address left offset;
+      channel = channel_of standing ever ch;
       tally = standing.tally;
       done = done;
       full = full;
@@ -54,18 +50,21 @@ running_by standing ever done full inactive direction space address left offset 
       master = master;
     }
 
-abbrev pub running_of : State → Bool → List Bool → List ℕ → List ℕ → List ℕ → List ℕ → List ℕ → List ℕ → List ℕ → Running
-running_of state ever inactive direction space address left offset slave master =
-    running_by state.standing ever state.done state.full inactive direction space address left offset slave master
+abbrev pub running_of : State → Bool → Channel → List ℕ → List ℕ → Running
+running_of state ever ch slave master = running_by state.standing ever state.done state.full ch slave master
+
+-- before its first step
+abbrev pub run_at : Channel → Tally → List ℕ → List ℕ → Running
+run_at ch t slave master = record { channel = ch; tally = t; done = 0; full = false; slave = slave; master = master }
 
 -- a step as it was decided
-abbrev pub steps_after : StepAnswer → ℕ → ℕ
-steps_after (Done entry) done = done + 1
-steps_after (NotDone why) done = done
+abbrev pub steps_after : Result Entry Refusal → ℕ → ℕ
+steps_after (Ok entry) done = done + 1
+steps_after (Err why) done = done
 
-abbrev pub stops : StepAnswer → Bool
-stops (Done entry) = false
-stops (NotDone why) = true
+abbrev pub stops : Result Entry Refusal → Bool
+stops (Ok entry) = false
+stops (Err why) = true
 
 abbrev pub running_after : Running → Decided → List Bool → Running
 running_after w d marks =
@@ -88,7 +87,7 @@ unfoldable pub step_run : Route → Running → Running
 step_run route w = running_after w (decided_in route w.channel w.tally) (marks_in route w.channel w.tally)
 
 -- one cycle more of an owner
-unfoldable pub cycle_on : Route → Asked → Tenure → Tenure
+unfoldable pub cycle_on : Route → Option ℕ → Tenure → Tenure
 cycle_on route asked t =
     record {
       clock = t.clock + route.time;
@@ -113,7 +112,7 @@ abbrev pub held_of : Tenure → List ℕ → List ℕ → Held
 held_of t slave master = record { tenure = t; slave = slave; master = master }
 
 -- at most k of them: until the owner releases the channel, the next one would pass the clock's limit, or k are done
-unfoldable pub held : Route → Asked → ℕ → Tenure → List ℕ → List ℕ → Held
+unfoldable pub held : Route → Option ℕ → ℕ → Tenure → List ℕ → List ℕ → Held
 held route asked zero t slave master = held_of t slave master
 held route asked (suc k) t slave master =
     cond
@@ -164,9 +163,9 @@ stepped_on a done low = record { standing = a.standing; done = done + 1; full = 
 abbrev pub start_at : Standing → ℕ → State
 start_at s base = record { standing = s; done = 0; full = false; low = base }
 
-pub record Begun (s : Standing) (ever : Bool) (base : ℕ) (left : List ℕ) (before after : List Bool) (r : State) : Type 0 where
+pub record Begun (s : Standing) (ever : Bool) (base : ℕ) (before after : Channel) (r : State) : Type 0 where
   pub later : ever ≡ true → (r ≡ start_at s base) × (after ≡ before)
-  pub first : ever ≡ false → (c : Chosen) × (IsChosen left before after base c) × (r ≡ stepped_on (granted_by s ever c.winner c.active) 0 c.low)
+  pub first : ever ≡ false → (c : Chosen) × (IsChosen before after base c) × (r ≡ stepped_on (granted_by s ever c.winner c.active) 0 c.low)
 
 -- one turn
 abbrev pub turn_by : Route → ℕ → Running → Phase → Running
@@ -176,8 +175,8 @@ turn_by route budget w (Granted o) = cond (eqb (get_or w.channel.left o 0) 0) (s
 unfoldable pub turn_of : Route → ℕ → Running → Running
 turn_of route budget w = turn_by route budget w w.channel.phase
 
-abbrev pub verdict_of : Bool → Verdict
-verdict_of full = cond full (Refused (refusal_by 6)) Accepted
+abbrev pub verdict_of : Bool → Result Unit Refusal
+verdict_of full = cond full (Err (refusal_by 6)) accepted
 
 -- what is still to come of a run
 abbrev pub world_of : Running → World
@@ -185,7 +184,7 @@ world_of w = world w.channel w.tally w.slave w.master
 
 unfoldable pub to_come : Setup → ℕ → Running → Out
 to_come setup budget w =
-    cond w.full (stopped (Refused (refusal_by 6)) w.done (world_of w)) (run_from setup (budget - w.done) w.done (world_of w))
+    cond w.full (stopped (Err (refusal_by 6)) w.done (world_of w)) (run_from setup (budget - w.done) w.done (world_of w))
 
 -- the routes of the open requests of the levels below n
 abbrev pub AreRoutes : Setup → (ℕ → Request) → List Route → ℕ → Type 0
@@ -220,19 +219,17 @@ pub record Logging : Type 0 where
   pub running : Running
   pub page : Page
 
-abbrev pub logging_of
-    : Log → Bool → List Bool → List ℕ → List ℕ → List ℕ → List ℕ → List ℕ → List ℕ → List ℕ → List ℕ → Logging
-logging_of log first inactive direction space address left offset slave master out =
+abbrev pub logging_of : Log → Bool → Channel → List ℕ → List ℕ → List ℕ → Logging
+logging_of log first ch slave master out =
     record {
-      running =
-          running_by log.standing (ltb 0 log.done || first) log.done log.full inactive direction space address left offset slave master;
+      running = running_by log.standing (ltb 0 log.done || first) log.done log.full ch slave master;
       page = page out log.at;
     }
 
 -- one step of it, and its line
-abbrev pub page_by : StepAnswer → Page → Page
-page_by (Done entry) p = page_after p entry
-page_by (NotDone why) p = p
+abbrev pub page_by : Result Entry Refusal → Page → Page
+page_by (Ok entry) p = page_after p entry
+page_by (Err why) p = p
 
 unfoldable pub log_step : Route → Logging → Logging
 log_step route g =
@@ -246,7 +243,7 @@ unfoldable pub log_to_come : Setup → ℕ → Logging → LoggedOut
 log_to_come setup budget g =
     cond
     g.running.full
-    (closed (Refused (refusal_by 6)) g.running.done (world_of g.running) g.page)
+    (closed (Err (refusal_by 6)) g.running.done (world_of g.running) g.page)
     (log_from setup (budget - g.running.done) g.running.done (world_of g.running) g.page)
 
 -- what a logged step relies on

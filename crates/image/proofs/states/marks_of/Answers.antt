@@ -9,4 +9,4 @@ pub loop-level-preserved : goal.loop-level-preserved
 loop-level-preserved c =
     let l = c.loop-level in
     let more : places - l.level ≡ suc (places - (l.level + 1)) = omega arith in
-    (omega arith, marks_on l.marks l.level l.rest more ∙ l.invariant.1)
+    marks_on l.marks l.level l.rest more ∙ l.invariant

@@ -1,4 +1,4 @@
-use Prim.Native.Nat.{◌-◌, ◌≤◌}
+use Prim.Native.Nat.{◌-◌}
 use mathlib.Core.Path.{◌≡◌}
 use Rattle.basics.specs.Limits.{places}
 use Rattle.number.specs.Number.{read_number}
@@ -7,8 +7,4 @@ use Rattle.image.proofs.states.read_requests.Given as goal
 
 abbrev pub invariant-loop-level : goal.invariant-loop-level
 invariant-loop-level l =
-    (l.level ≤ places)
-    × (requests_at (read_number l.bytes) (places - l.level) l.level l.channel l.place ≡ requests_at (read_number l.bytes) places 0 l.initial.channel l.at)
-
-abbrev pub decreases-loop-level : goal.decreases-loop-level
-decreases-loop-level l = places - l.level
+    requests_at (read_number l.bytes) (places - l.level) l.level l.channel l.place ≡ requests_at (read_number l.bytes) places 0 l.initial.channel l.at

@@ -1,15 +1,7 @@
-use mathlib.Core.Path.{sym, ◌∙◌}
-use Rattle.image.specs.Read.{state_at}
+use Rattle.basics.specs.Limits.{places}
+use Rattle.number.specs.Number.{read_number}
+use Rattle.numbers.proofs.Laws.{at_most}
 use Rattle.image.proofs.states.read_state.Goals as goal
 
-pub returns-in-Refused : goal.returns-in-Refused
-unfolding state_at
-returns-in-Refused c =
-    let e = sym c.number_in-flag.ensures ∙ c.in-Refused.is in
-    rw e c.no_channel.ensures
-
-pub returns-in-Number : goal.returns-in-Number
-unfolding state_at
-returns-in-Number c =
-    let e = sym c.number_in-flag.ensures ∙ c.in-Number.is in
-    rw e c.read_clock.ensures
+pub phase_of-requires : goal.phase_of-requires
+phase_of-requires c = at_most (read_number c.args.bytes.now) 0 places _ c.in_ok-clock.third c.number_in-2.ensures c.in_ok-owner.was

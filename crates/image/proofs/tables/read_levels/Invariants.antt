@@ -1,4 +1,4 @@
-use Prim.Native.Nat.{◌-◌, ◌≤◌}
+use Prim.Native.Nat.{◌-◌}
 use mathlib.Core.Path.{◌≡◌}
 use Rattle.number.specs.Number.{read_number}
 use Rattle.frame.specs.declared.RowKind.TheVariants.{Levels}
@@ -8,9 +8,5 @@ use Rattle.image.proofs.tables.read_levels.Given as goal
 
 abbrev pub invariant-loop-i : goal.invariant-loop-i
 invariant-loop-i l =
-    (l.i ≤ l.count)
-    × (rows_at Levels (read_number l.bytes) (l.count - l.i) l.i (with_levels no_rows l.levels) l.place
-    ≡ rows_at Levels (read_number l.bytes) l.count 0 (with_count no_rows Levels l.count) l.at)
-
-abbrev pub decreases-loop-i : goal.decreases-loop-i
-decreases-loop-i l = l.count - l.i
+    rows_at Levels (read_number l.bytes) (l.count - l.i) l.i (with_levels no_rows l.levels) l.place
+    ≡ rows_at Levels (read_number l.bytes) l.count 0 (with_count no_rows Levels l.count) l.at

@@ -23,11 +23,11 @@ more marks level {bit} {sum} n low high b s =
 pub overflow_mul-sum : goal.overflow_mul-sum
 overflow_mul-sum c =
     let l = c.loop-level in
-    let m = more c.args.marks l.level l.invariant.1 c.loop-level-test.true l.invariant.0 c.flag_number.ensures l.invariant.2 in
+    let m = more c.args.marks l.level l.invariant.places_all (omega arith) (omega arith) c.flag_number.ensures l.invariant.sum in
     omega (arith, m.1)
 
 pub overflow_add-sum : goal.overflow_add-sum
 overflow_add-sum c =
     let l = c.loop-level in
-    let m = more c.args.marks l.level l.invariant.1 c.loop-level-test.true l.invariant.0 c.flag_number.ensures l.invariant.2 in
+    let m = more c.args.marks l.level l.invariant.places_all (omega arith) (omega arith) c.flag_number.ensures l.invariant.sum in
     omega (arith, m.1)

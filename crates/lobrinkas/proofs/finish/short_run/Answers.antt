@@ -13,19 +13,19 @@ returns-then-steps-gt-STEPS_MOST c =
     let tried = none_done a.setup a.channel a.tally a.slave.now a.master.now
     (c.run-tried.ensures.value, (c.run-tried.ensures.slave_after, c.run-tried.ensures.master_after)) in
     record {
-      value = rw (sym tried.0 ∙ c.in-Accepted.is, lt-ltb steps_most a.steps (omega arith));
+      value = rw (sym tried.0 ∙ c.in-Ok.is, lt-ltb steps_most a.steps (omega arith));
       slave_unchanged = tried.1.0;
       master_unchanged = tried.1.1;
     }
 
-pub returns-in-Refused : goal.returns-in-Refused
+pub returns-in-Err : goal.returns-in-Err
 unfolding short_run
-returns-in-Refused c =
+returns-in-Err c =
     let a = c.args in
     let tried = none_done a.setup a.channel a.tally a.slave.now a.master.now
     (c.run-tried.ensures.value, (c.run-tried.ensures.slave_after, c.run-tried.ensures.master_after)) in
     record {
-      value = rw (sym tried.0 ∙ c.in-Refused.is);
+      value = rw (sym tried.0 ∙ c.in-Err.is);
       slave_unchanged = tried.1.0;
       master_unchanged = tried.1.1;
     }
@@ -37,7 +37,7 @@ returns-else-steps-gt-STEPS_MOST c =
     let tried = none_done a.setup a.channel a.tally a.slave.now a.master.now
     (c.run-tried.ensures.value, (c.run-tried.ensures.slave_after, c.run-tried.ensures.master_after)) in
     record {
-      value = rw (sym tried.0 ∙ c.in-Accepted.is, le-ltb steps_most a.steps (omega arith));
+      value = rw (sym tried.0 ∙ c.in-Ok.is, le-ltb steps_most a.steps (omega arith));
       slave_unchanged = tried.1.0;
       master_unchanged = tried.1.1;
     }

@@ -5,17 +5,17 @@ use Rattle.step.proofs.acts.choose.Goals as goal
 
 pub overflow_add-winner : goal.overflow_add-winner
 overflow_add-winner c =
-    let w = is c.args.left.now c.args.inactive.now _ _ _ c.requires c.winner_from-winner.ensures in
-    record { fits = omega (arith, w, winner_small c.args.left.now c.args.inactive.now) }
+    let w = is c.args.channel.now _ _ _ c.requires c.winner_from-winner.ensures in
+    record { fits = omega (arith, w, winner_small c.args.channel.now.left c.args.channel.now.inactive) }
 
 pub returns-then-waits_from : goal.returns-then-waits_from
 returns-then-waits_from c =
-    chosen_active c.args.left.now c.args.inactive.now _ _ _ c.requires c.winner_from-winner.ensures
+    chosen_active c.args.channel.now _ _ _ c.requires c.winner_from-winner.ensures
     (sym c.waits_from.ensures ∙ c.if-waits_from.true)
 
 pub returns : goal.returns
 returns c =
-    chosen_quiet c.args.left.now c.args.inactive.now _ _ _ c.requires
+    chosen_quiet c.args.channel.now _ _ _ c.requires
     c.winner_from-winner.ensures _
     (sym c.waits_from.ensures ∙ c.if-waits_from.false)
     c.others_from-active.ensures

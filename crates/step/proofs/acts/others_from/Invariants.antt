@@ -5,7 +5,4 @@ use Rattle.step.specs.inner.Machine.{any_from, asks_beside, others_from}
 use Rattle.step.proofs.acts.others_from.Given as goal
 
 abbrev pub invariant-loop-level : goal.invariant-loop-level
-invariant-loop-level l = any_from (asks_beside l.left l.owner) l.level (places - l.level) ≡ others_from l.left l.from l.owner
-
-abbrev pub decreases-loop-level : goal.decreases-loop-level
-decreases-loop-level l = places - l.level
+invariant-loop-level l = any_from (asks_beside l.channel.left l.owner) l.level (places - l.level) ≡ others_from l.channel.left l.from l.owner

@@ -6,7 +6,4 @@ use Rattle.step.specs.inner.Machine.{any_from, waits_from}
 use Rattle.step.proofs.acts.waits_from.Given as goal
 
 abbrev pub invariant-loop-level : goal.invariant-loop-level
-invariant-loop-level l = any_from (waits l.left l.inactive) l.level (places - l.level) ≡ waits_from l.left l.inactive l.from
-
-abbrev pub decreases-loop-level : goal.decreases-loop-level
-decreases-loop-level l = places - l.level
+invariant-loop-level l = any_from (waits l.channel.left l.channel.inactive) l.level (places - l.level) ≡ waits_from l.channel.left l.channel.inactive l.from

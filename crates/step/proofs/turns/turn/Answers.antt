@@ -15,24 +15,23 @@ returns-then-is_full c =
     let a = c.args in
     let full = (ap (λ (x : ℕ). ltb clock_limit (c.args.state.standing.clock + x))
     (sym c.arbitration_time.ensures) ∙ sym c.is_full.ensures ∙ c.if-is_full.true) in record {
-      master_after = turn_full a.route a.budget a.state true a.inactive.now a.direction.now a.space.now a.address.now a.left.now
-          a.offset.now a.slave.now a.master.now c.in-Arbitrating.is
+      master_after = turn_full a.route a.budget a.state true a.channel.now a.slave.now a.master.now c.in-Arbitrating.is
           a.state.low full;
       lows = c.requires.lows;
     }
 
-pub slot_at-request-requires : goal.slot_at-request-requires
-slot_at-request-requires c =
+pub request_at-request-requires : goal.request_at-request-requires
+request_at-request-requires c =
     (c.requires.owned _ c.in-Granted.is).small
 
 pub returns-then-request-eq0 : goal.returns-then-request-eq0
 returns-then-request-eq0 c =
     let a = c.args in
     let p = c.in-Granted.is in
-    let none = sym (ap (λ (q : Request). q.left) c.slot_at-request.ensures)
+    let none = sym (ap (λ (q : Request). q.left) c.request_at-request.ensures)
     ∙ c.if-request-eq0.true in record {
-      master_after = turn_rest a.route a.budget a.state true a.inactive.now a.direction.now a.space.now a.address.now a.left.now
-          a.offset.now a.slave.now a.master.now _ p _ _ _ none c.rest_acted.ensures c.stepped_on-then-request-eq0.ensures;
+      master_after = turn_rest a.route a.budget a.state true a.channel.now a.slave.now a.master.now _ p _ _ _ none
+          c.rest_acted.ensures c.stepped_on-then-request-eq0.ensures;
       lows = lows_rest _ _ _ c.requires.lows _ _ a.state.standing _ _ refl c.rest_acted.ensures c.stepped_on-then-request-eq0.ensures;
     }
 
@@ -42,10 +41,9 @@ returns-else-is_full c =
     let i = c.choose-chosen.ensures in
     let room = (ap (λ (x : ℕ). ltb clock_limit (c.args.state.standing.clock + x))
     (sym c.arbitration_time.ensures) ∙ sym c.is_full.ensures ∙ c.if-is_full.false) in record {
-      master_after = turn_grant a.route a.budget a.state true a.inactive.now a.direction.now a.space.now a.address.now a.left.now
-          a.offset.now a.slave.now a.master.now c.in-Arbitrating.is _ _ _ _ _ room i
+      master_after = turn_grant a.route a.budget a.state true a.channel.now a.slave.now a.master.now c.in-Arbitrating.is _ _ _ _ _ room i
           c.granted_by.ensures c.stepped_on.ensures;
-      lows = lows_grant _ _ _ c.requires.lows _ _ a.state.standing true _ _ _ i c.granted_by.ensures
+      lows = lows_grant _ _ a.state.standing true a.channel.now c.requires.lows _ _ a.state.standing true _ _ _ i c.granted_by.ensures
           c.stepped_on.ensures;
     }
 
@@ -54,11 +52,9 @@ returns-else-request-eq0 c =
     let a = c.args in
     let p = c.in-Granted.is in
     let k = c.run_cycles.ensures in
-    let q = c.slot_at-request.ensures in
-    let some : get_or a.left.now _ 0 ≡ 0 → ⊥ = λ z. c.if-request-eq0.false (ap (λ (x : Request). x.left) q ∙ z) in record {
-      master_after = turn_cycles a.route a.budget a.state true a.inactive.now a.direction.now a.space.now a.address.now a.left.now
-          a.offset.now a.slave.now a.master.now _ p _ some k.master_after;
-      lows = lows_cycles a.route a.budget _ _ _ (running_of a.state true a.inactive.now a.direction.now a.space.now
-          a.address.now a.left.now a.offset.now a.slave.now a.master.now)
+    let q = c.request_at-request.ensures in
+    let some : get_or a.channel.now.left _ 0 ≡ 0 → ⊥ = λ z. c.if-request-eq0.false (ap (λ (x : Request). x.left) q ∙ z) in record {
+      master_after = turn_cycles a.route a.budget a.state true a.channel.now a.slave.now a.master.now _ p _ some k.master_after;
+      lows = lows_cycles a.route a.budget _ _ _ (running_of a.state true a.channel.now a.slave.now a.master.now)
           c.requires.lows p (rw (ne_eqb _ 0 some)) _ _ k.low_value k.master_after;
     }

@@ -1,4 +1,0 @@
-use Rattle.sheetlog.proofs.log.log_steps.Given as goal
-
-abbrev pub decreases-loop-rest : goal.decreases-loop-rest
-decreases-loop-rest g l = l.rest
