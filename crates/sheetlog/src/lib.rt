@@ -16,7 +16,7 @@ ghost use Rattle.std.specs.Io.KnownBytes.{Consumes, IsAtEnd};
 ghost use Rattle.sheethost.specs.Host.{four_bytes};
 
 use failure::Failure;
-use log::{Asked, run_sheet};
+use log::{Asked, Room, run_sheet};
 use std::io::{Input, Read};
 use std::process::ExitCode;
 use std::rt::Env;
@@ -70,13 +70,14 @@ fn run_next(
     input: &mut impl Read,
     output: &impl Print,
     buf: &mut [u8],
+    room: Room,
     asked: Asked,
 ) -> Result<bool, Failure> {
     let Some(size) = next_size(input)? else {
         return Ok(false);
     };
     next_bytes(input, buf, size)?;
-    run_sheet(output, &buf[..size], asked)?;
+    run_sheet(output, &buf[..size], room, asked)?;
     Ok(true)
 }
 
@@ -84,12 +85,20 @@ fn run_next(
 fn run_many(rt: &(impl Input + Print), levels: &[u32]) -> Result<(), Failure> {
     let mut input = rt.reader();
     let mut buf = [0u8; LARGE];
+    let mut slave = [0u8; LARGE];
+    let mut master = [0u8; MASTER];
+    let mut page = [0u8; LARGE];
     let asked = Asked {
         levels,
         digests: true,
     };
     for _ in 0..u64::MAX {
-        if !run_next(&mut input, rt, &mut buf, asked)? {
+        let room = Room {
+            slave: &mut slave,
+            master: &mut master,
+            page: &mut page,
+        };
+        if !run_next(&mut input, rt, &mut buf, room, asked)? {
             return Ok(());
         }
     }
@@ -97,24 +106,31 @@ fn run_many(rt: &(impl Input + Print), levels: &[u32]) -> Result<(), Failure> {
 }
 
 // What follows the bytes of the longest sheet has no part in the judgement, but whoever writes to a pipe is not cut off.
-fn read_past(input: &mut impl Read, size: usize) -> Result<(), Failure> {
+fn read_past(input: &mut impl Read, size: usize, rest: &mut [u8]) -> Result<(), Failure> {
     if size < LARGE {
         return Ok(());
     }
-    let mut rest = [0u8; LARGE];
-    read_rest(input, &mut rest)
+    read_rest(input, rest)
 }
 
 fn run_one(rt: &(impl Input + Print), levels: &[u32]) -> Result<(), Failure> {
     let mut input = rt.reader();
     let mut buf = [0u8; LARGE];
+    let mut slave = [0u8; LARGE];
+    let mut master = [0u8; MASTER];
+    let mut page = [0u8; LARGE];
     let size = read_whole(&mut input, &mut buf)?;
-    read_past(&mut input, size)?;
+    read_past(&mut input, size, &mut page)?;
+    let room = Room {
+        slave: &mut slave,
+        master: &mut master,
+        page: &mut page,
+    };
     let asked = Asked {
         levels,
         digests: false,
     };
-    run_sheet(rt, &buf[..size], asked)
+    run_sheet(rt, &buf[..size], room, asked)
 }
 
 // One argument, which says what many sheets are to print.

@@ -17,6 +17,15 @@ pub(crate) struct Asked<'a> {
     pub(crate) digests: bool,
 }
 
+// What sheets are run over: both stores, and the page that holds the lines of a log until they are written. It is made once for all
+// sheets: to make it anew takes longer than a short sheet does.
+#[derive(Drop)]
+pub(crate) struct Room<'a> {
+    pub(crate) slave: &'a mut [u8; LARGE],
+    pub(crate) master: &'a mut [u8; MASTER],
+    pub(crate) page: &'a mut [u8; LARGE],
+}
+
 // A sheet as its events are run: the channel and the tally go on from event to event, and the page has the lines that are not
 // written yet, up to where it is filled.
 #[derive(Drop)]
@@ -158,39 +167,40 @@ fn print_digests(
 
 // A bad sheet prints only its refusal and the place. No event runs: the digests are of no slave store, and of the master store
 // as it begins.
-fn log_fault(output: &impl Print, fault: Fault, digests: bool) -> Result<(), Failure> {
+fn log_fault(output: &impl Print, fault: Fault, room: Room, digests: bool) -> Result<(), Failure> {
     let number = u32::from(refusal::refusal_number(fault.why));
     if 65535 < fault.place {
         return Err(Failure::NoRoom);
     }
-    let mut page = [0u8; 128];
-    let filled = logline::put_fault(&mut page, 0, number, fault.place as u32);
-    write_first(output, &page, filled)?;
+    let filled = logline::put_fault(room.page, 0, number, fault.place as u32);
+    write_first(output, room.page, filled)?;
     if digests {
-        let mut master = [0u8; MASTER];
-        sheethost::fill_master(&mut master);
+        sheethost::fill_master(room.master);
         let slave = sheethost::digest(b"");
-        return print_digests(output, slave, sheethost::digest(&master), tally::no_tally());
+        let master = sheethost::digest(room.master);
+        return print_digests(output, slave, master, tally::no_tally());
     }
     Ok(())
 }
 
-fn log_list(output: &impl Print, list: &[u32], asked: Asked) -> Result<(), Failure> {
+fn log_list(output: &impl Print, list: &[u32], room: Room, asked: Asked) -> Result<(), Failure> {
     let setup = sheetlist::setup_of(list, 4096);
     let size = frame::slave_store_length(setup.slaves);
-    let mut slave = [0u8; LARGE];
-    let mut master = [0u8; MASTER];
-    let mut page = [0u8; LARGE];
+    let Room {
+        slave,
+        master,
+        page,
+    } = room;
     let slave = slave.get_mut(..size).ok_or(Failure::NoRoom)?;
     sheethost::fill_slave(slave);
-    sheethost::fill_master(&mut master);
+    sheethost::fill_master(master);
     let mut session = Session {
         setup,
         channel: channel::fresh_channel(),
         tally: tally::no_tally(),
         slave,
-        master: &mut master,
-        page: &mut page,
+        master,
+        page,
         filled: 0,
     };
     session.take_events(output, list, asked.levels)?;
@@ -203,11 +213,21 @@ fn log_list(output: &impl Print, list: &[u32], asked: Asked) -> Result<(), Failu
 }
 
 // One sheet, whole: its log, or where levels are asked about, why they wait.
-pub(crate) fn run_sheet(output: &impl Print, sheet: &[u8], asked: Asked) -> Result<(), Failure> {
+pub(crate) fn run_sheet(
+    output: &impl Print,
+    sheet: &[u8],
+    room: Room,
+    asked: Asked,
+) -> Result<(), Failure> {
     let mut list = [0u32; 7300];
     match sheet::read_sheet(sheet, &mut list) {
-        Err(fault) => log_fault(output, fault, asked.digests),
+        Err(fault) => log_fault(output, fault, room, asked.digests),
         // the numbers of the sheet are the first `count` of the list
-        Ok(count) => log_list(output, list.get(..count).ok_or(Failure::NoRoom)?, asked),
+        Ok(count) => log_list(
+            output,
+            list.get(..count).ok_or(Failure::NoRoom)?,
+            room,
+            asked,
+        ),
     }
 }

@@ -1,5 +1,5 @@
 -- The arrays by level number, and that the tests over them are those of `Sound`.
-use Prim.Native.Nat.{ℕ, ◌+◌, ◌-◌, ◌<◌, ◌≤◌}
+use Prim.Native.Nat.{ℕ, zero, suc, ◌+◌, ◌-◌, ◌<◌, ◌≤◌}
 use mathlib.Core.Path.{◌≡◌, refl, sym, ◌∙◌}
 use mathlib.Core.Bool.{Bool, true, false, ◌&&◌, and-true}
 use mathlib.Core.List.{List}
@@ -8,20 +8,21 @@ use native.Mathlib.Numerals.{add-one}
 use native.Mathlib.Omega.{arith}
 use borrow.Author.Tests.{lt-ltb, eq-eqb, ne_eqb, eqb-true, eqb-false, leb-true}
 use lib.Dec.{eqb, leb}
-use lib.ListN.{length, get_or, set}
+use lib.ListN.{length, length-set, get_or, get_or-replicate, replicate, set}
 use lib.Seq.{get_or-set_same, get_or-set_other}
 use Rattle.std.specs.Prelude.{None, Option, Some}
 use Rattle.frame.specs.declared.LevelRow.{LevelRow}
 use Rattle.basics.specs.Limits.{places, no_row, system_master}
 use Rattle.basics.specs.Scan.{all_below, first_from}
 use Rattle.basics.proofs.ScanLaws.{all_more, all_miss, all_ext, all_both, first_hit, first_miss, first_none, first_finds, first_default}
-use Rattle.basics.proofs.Tests.{by_test}
+use Rattle.basics.proofs.Tests.{by_test, and_left}
 use Rattle.frame.specs.declared.LevelRows.{LevelRows}
 use Rattle.frame.specs.declared.Setup.{Setup}
 use Rattle.frame.specs.declared.SlaveRows.{SlaveRows}
-use Rattle.frame.specs.Frame.{level_at, slave_at, rows_present}
+use Rattle.frame.specs.Frame.{level_at, slave_at, rows_present, level_row_fits}
 use Rattle.frame.specs.Find.{level_found, level_row, level_index, row_holds, slave_row, slave_index}
 use Rattle.frame.specs.Rows.{is_fair, is_level, level_or, is_present, level_of}
+use Rattle.frame.proofs.FrameLaws.{level_facts}
 use Rattle.channel.specs.declared.Phase.{Phase}
 use Rattle.channel.specs.declared.Phase.TheVariants.{Arbitrating, Granted}
 use Rattle.channel.specs.declared.Channel.{Channel}
@@ -32,7 +33,7 @@ use Rattle.sound.specs.declared.Members.{Members}
 use Rattle.sound.specs.Request.{is_inside_slave}
 use Rattle.sound.specs.Sound.{is_grant_sound, owner_sound, is_owner_sound, is_request_sound, are_requests_sound, is_mark_sound, are_marks_sound}
 use Rattle.sound.specs.Sound.{is_never_granted_sound, is_clock_sound, is_asked_sound, is_sound}
-use Rattle.sound.specs.inner.Tables.{is_fair_row, AreMembers, grant_fits, owner_fits, is_blank_or, are_blank, open_sound, are_open_sound, requests_fit, are_marked}
+use Rattle.sound.specs.inner.Tables.{is_fair_row, AreMembers, with_level, grant_fits, owner_fits, is_blank_or, are_blank, open_sound, are_open_sound, requests_fit, are_marked}
 
 -- the row of a level among those from row i on
 unfoldable pub found_from : LevelRows → ℕ → ℕ → Option LevelRow
@@ -79,6 +80,47 @@ module _ (levels : LevelRows) (l : ℕ) where
       rw (found_after i some h n) (get_or-set_other table (level_at levels (i - 1)).level l _ false (λ q. n (sym q)) ∙ e))
 
 pub ruleset found = (found_none, found_here, found_after, found_whole)
+
+-- the tables tell of the rows from row i on
+pub record AreMembersFrom (levels : LevelRows) (i : ℕ) (members : Members) : Type 0 where
+  pub present_places : length members.present ≡ places
+  pub fair_places : length members.fair ≡ places
+  pub present : TellsFrom levels is_level i members.present
+  pub fair : TellsFrom levels is_fair_row i members.fair
+
+-- empty, of none
+pub none_put : (levels : LevelRows) (i : ℕ) → rows_present levels.count ≤ i
+    → AreMembersFrom levels i (record { present = replicate places false; fair = replicate places false })
+none_put levels i h =
+    record {
+      present_places = refl;
+      fair_places = refl;
+      present = λ l k. rw (found_none levels l i h) (get_or-replicate places l false false k);
+      fair = λ l k. rw (found_none levels l i h) (get_or-replicate places l false false k);
+    }
+
+-- and with one more put into them, of one row more
+pub level_put : (levels : LevelRows) (members put : Members) (i : ℕ) → put ≡ with_level members (level_at levels (i - 1)) → 0 < i
+    → i ≤ rows_present levels.count → (level_at levels (i - 1)).level < places → AreMembersFrom levels i members → AreMembersFrom levels (i - 1) put
+level_put levels members put i e some h s tell =
+    rw e
+    record {
+      present_places = length-set members.present _ true ∙ tell.present_places;
+      fair_places = length-set members.fair _ (is_fair (level_at levels (i - 1)).options) ∙ tell.fair_places;
+      present = λ l k. found_more levels l is_level members.present i some h (omega arith) (tell.present l k);
+      fair = λ l k. found_more levels l is_fair_row members.fair i some h (omega arith) (tell.fair l k);
+    }
+
+-- a row that keeps the frame has a level with a place in the tables
+pub fits_small : (levels : LevelRows) (i : ℕ) → level_row_fits levels i ≡ true → (level_at levels i).level < places
+unfolding level_row_fits
+fits_small levels i e = let f = (level_facts (level_at levels i) (and_left _ _ e)).level in omega arith
+
+-- what is left to test, where the last holds
+pub all_less : (f : ℕ → Bool) (i : ℕ) → 0 < i → f (i - 1) ≡ true → all_below f i ≡ all_below f (i - 1)
+unfolding all_below
+all_less f zero h e = absurd (omega arith)
+all_less f (suc i) h e = let k : suc i - 1 ≡ i = omega arith in let g : f i ≡ true = rw k at e in rw (k, g) (and-true (all_below f i))
 
 -- one number more of those below a bound
 pub all_one_more : (f : ℕ → Bool) (i : ℕ) → all_below f (i + 1) ≡ (all_below f i && f i)
@@ -153,5 +195,3 @@ module _ (setup : Setup) (ch : Channel) (members : Members) (tells : AreMembers 
       ≡ is_sound setup ch
   unfolding is_sound
   clauses_sound = rw (owner_is, requests_are, marks_are (line ch))
-
-pub ruleset clauses = (owner_is, requests_are, marks_are)

@@ -2,18 +2,20 @@
 // 3, 4 and 5.
 #![tactic(auto)]
 
-ghost use Rattle.std.specs.Prelude.{◌≡◌, ◌<◌, ◌+◌, ltb};
+ghost use Rattle.std.specs.Prelude.{◌≡◌, ◌<◌, ◌+◌, ltb, IfSome};
+ghost use Rattle.std.specs.Option.{is_some};
 ghost use Rattle.basics.specs.Limits.{places};
+ghost use Rattle.frame.specs.Frame.{levels_fit};
 ghost use Rattle.channel.specs.Channel.{request_of};
 ghost use Rattle.sound.specs.Request.{is_in_range, is_inside_slave, request_verdict, transfer_of};
 ghost use Rattle.sound.specs.Sound.{are_unmarked, is_never_granted_sound, is_blank, is_in_time, is_asked_at, is_asked_sound};
-ghost use Rattle.sound.specs.Sound.{is_sound, sound_store};
-ghost use Rattle.sound.specs.inner.Tables.{AreMembers, grant_fits, owner_fits, are_blank, open_sound, are_open_sound};
+ghost use Rattle.sound.specs.Sound.{is_clock_sound, is_sound, sound_store};
+ghost use Rattle.sound.specs.inner.Tables.{AreMembers, with_level, grant_fits, owner_fits, are_blank, open_sound, are_open_sound};
 ghost use Rattle.sound.specs.inner.Tables.{requests_fit, are_marked};
 
 use basics::{CLOCK_LIMIT, PLACES, PLACES_U32, ROWS_MOST, SYSTEM_MASTER};
 use channel::{Channel, Phase, Request};
-use frame::{LevelRows, Setup};
+use frame::{LevelRow, LevelRows, Setup};
 use refusal::Refusal;
 
 // Length, direction and space of a request are in range.
@@ -99,24 +101,57 @@ struct Members {
     fair: [bool; PLACES],
 }
 
+const NO_MEMBERS: Members = Members {
+    present: [false; PLACES],
+    fair: [false; PLACES],
+};
+
+// The level of a row that has a place in the tables, put into them.
+fn put_level(members: &mut Members, row: LevelRow)
+    requires { row.level < places }
+    ensures { members.new ≡ with_level members.old row }
+{
+    let level = row.level as usize;
+    members.present[level] = true;
+    members.fair[level] = frame::is_fair(row.options);
+}
+
 // The rows are gone through from the last to the first: a level's first row counts.
 #[tactic(auto, using(crate::proofs::TableLaws::found))]
 fn members_of(levels: &LevelRows) -> Members
     ensures { AreMembers levels.now result }
 {
-    let mut members = Members {
-        present: [false; PLACES],
-        fair: [false; PLACES],
-    };
+    let mut members = NO_MEMBERS;
     for i in (0..levels.count.min(ROWS_MOST)).rev() {
         let row = levels.rows[i];
         if row.level < PLACES_U32 {
-            let level = row.level as usize;
-            members.present[level] = true;
-            members.fair[level] = frame::is_fair(row.options);
+            put_level(&mut members, row);
         }
     }
     members
+}
+
+// The same of rows that keep the frame, and none of others: one pass for both tests, as every step pays for it.
+#[tactic(auto, using(crate::proofs::TableLaws::found), unfolding(frame::specs::Frame::levels_fit, basics::specs::Scan::all_below))]
+fn seats_of(levels: &LevelRows) -> Option<Members>
+    ensures fits { is_some result ≡ levels_fit levels.now }
+    ensures members { IfSome result (AreMembers levels.now) }
+{
+    let count = levels.count;
+    if !frame::is_row_count(count) {
+        return None;
+    }
+    let mut members = NO_MEMBERS;
+    for i in (0..count).rev() {
+        let row = levels.rows[i];
+        // the first row has none before it, and stands in for it
+        let before = levels.rows[i.saturating_sub(1)];
+        if !frame::level_fits(row, before.level, i, count) {
+            return None;
+        }
+        put_level(&mut members, row);
+    }
+    Some(members)
 }
 
 // No level is marked inactive.
@@ -287,8 +322,14 @@ fn is_asked_sound(setup: &Setup, channel: &Channel, active: bool) -> bool
     }
 }
 
+// The clock is at most the limit.
+fn is_clock_sound(channel: &Channel) -> bool
+    ensures { result ≡ is_clock_sound channel.now }
+{
+    channel.clock <= CLOCK_LIMIT
+}
+
 // A test for each clause.
-#[tactic(auto, using(crate::proofs::TableLaws::clauses), unfolding(crate::specs::Sound::is_sound))]
 fn are_clauses_sound(setup: &Setup, members: &Members, channel: &Channel) -> bool
     requires { AreMembers setup.now.levels members.now }
     ensures { result ≡ is_sound setup.now channel.now }
@@ -298,7 +339,7 @@ fn are_clauses_sound(setup: &Setup, members: &Members, channel: &Channel) -> boo
         && is_owner_sound(members, channel)
         && are_requests_sound(setup, members, channel)
         && are_marks_sound(members, channel, active)
-        && channel.clock <= CLOCK_LIMIT
+        && is_clock_sound(channel)
         && is_asked_sound(setup, channel, active)
 }
 
@@ -311,13 +352,16 @@ pub fn is_sound(setup: Setup, channel: Channel) -> bool
 }
 
 // How long the slave store of a set-up that keeps the frame is, while the channel is sound.
-#[tactic(auto, using(basics::proofs::Tests::tests), unfolding(crate::specs::Sound::sound_store, frame::specs::Find::framed_store))]
+#[tactic(auto, using(basics::proofs::Tests::tests), unfolding(crate::specs::Sound::sound_store, frame::specs::Frame::is_framed))]
 pub fn sound_store(setup: Setup, channel: Channel) -> Option<usize>
     ensures { result ≡ sound_store setup channel }
 {
-    let members = members_of(&setup.levels);
+    let members = seats_of(&setup.levels)?;
+    if !frame::is_master_length(setup.master) {
+        return None;
+    }
     if !are_clauses_sound(&setup, &members, &channel) {
         return None;
     }
-    frame::framed_store(setup)
+    frame::fitting_store(setup.slaves)
 }

@@ -1,7 +1,7 @@
 -- The tests of `Sound` as the functions make them: what a level's row says is looked up in arrays by level number, and the places without a request
--- are tested apart from the open requests. That they are those tests is shown in proofs/TableLaws, in the laws `clauses`.
+-- are tested apart from the open requests. That they are those tests is shown in proofs/TableLaws, and put together in the law `clauses_sound`.
 use Rattle.frame.specs.declared.LevelRow.{LevelRow}
-use Rattle.std.specs.Prelude.{ℕ, ◌<◌, ◌≡◌, Bool, true, false, not, ◌&&◌, ◌||◌, List, get_or, eqb, leb, None, Option, Some}
+use Rattle.std.specs.Prelude.{ℕ, ◌<◌, ◌≡◌, Bool, true, false, not, ◌&&◌, ◌||◌, List, get_or, set, eqb, leb, None, Option, Some}
 use Rattle.refusal.specs.Refusal.{is_accepted}
 use Rattle.basics.specs.Limits.{places, system_master}
 use Rattle.basics.specs.Scan.{all_below}
@@ -31,6 +31,11 @@ Tells levels asked table = (l : ℕ) → l < places → get_or table l false ≡
 pub record AreMembers (levels : LevelRows) (members : Members) : Type 0 where
   pub present : Tells levels is_level members.present
   pub fair : Tells levels is_fair_row members.fair
+
+-- the tables with the level of one row more
+abbrev pub with_level : Members → LevelRow → Members
+with_level members row =
+    record { present = set members.present row.level true; fair = set members.fair row.level (is_fair row.options) }
 
 -- the owner
 abbrev pub grant_fits : Members → Channel → ℕ → Bool
