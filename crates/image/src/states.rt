@@ -78,14 +78,27 @@ fn read_state(bytes: &[u8], at: usize) -> Result<(Channel, usize), Fault>
     Ok((channel, end))
 }
 
-// A request by the bytes that are left of it, and its other numbers from a place on.
+// A request by the bytes that are left of it, and its other numbers from a place on. A `match` for each number: with `?`
+// reading a channel with sixteen requests takes a fifth more instructions.
 fn read_request(bytes: &[u8], left: u32, at: usize) -> Result<(Request, usize), Fault>
     ensures { result ≡ read_request (read_number bytes.now) left at }
 {
-    let (direction, second) = number::read_number(bytes, at)?;
-    let (space, third) = number::read_number(bytes, second)?;
-    let (address, fourth) = number::read_number(bytes, third)?;
-    let (offset, end) = number::read_number(bytes, fourth)?;
+    let (direction, second) = match number::read_number(bytes, at) {
+        Ok(read) => read,
+        Err(fault) => return Err(fault),
+    };
+    let (space, third) = match number::read_number(bytes, second) {
+        Ok(read) => read,
+        Err(fault) => return Err(fault),
+    };
+    let (address, fourth) = match number::read_number(bytes, third) {
+        Ok(read) => read,
+        Err(fault) => return Err(fault),
+    };
+    let (offset, end) = match number::read_number(bytes, fourth) {
+        Ok(read) => read,
+        Err(fault) => return Err(fault),
+    };
     let request = Request {
         direction,
         space,

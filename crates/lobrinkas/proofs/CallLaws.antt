@@ -27,8 +27,8 @@ use Rattle.step.proofs.CarryLaws.{decided_room, decided_stores}
 use Rattle.image.specs.Layout.{channel_numbers, image_bytes}
 use Rattle.image.specs.Image.{imaged, malformed, read_setup, read_image, write_channel, write_channel_after}
 use Rattle.image.proofs.WrittenBack.{tail_size, tail_placed}
-use Rattle.lobrinkas.specs.Answers.{refused_answer, refused_step}
-use Rattle.lobrinkas.specs.Calls.{has_image_room, image_after, answering, answer_by, lobrinkas_post, Stepping, stepping, step_answered, lobrinkas_step}
+use Rattle.lobrinkas.specs.Answers.{refused_answer, refused_step, refused_told}
+use Rattle.lobrinkas.specs.Calls.{has_image_room, image_after, answering, answer_by, lobrinkas_post, Stepping, stepping, step_answered, lobrinkas_step, lobrinkas_why}
 use Rattle.lobrinkas.specs.inner.Finish.{answer_after, answer_finished, step_after, step_finished}
 
 -- the elements of a slice of bytes are bytes
@@ -114,6 +114,10 @@ module _ (image : List ℕ) (n : ℕ) (bad : malformed ≡ read_image image n) w
   pub step_malformed : (slave master : List ℕ) (t : Tally) → stepping (refused_step Malformed n t) image slave master ≡ lobrinkas_step image n slave master t
   unfolding lobrinkas_step
   step_malformed slave master t = rw (← bad)
+
+  pub why_malformed : (l : ℕ) → refused_told Malformed ≡ lobrinkas_why image n l
+  unfolding lobrinkas_why
+  why_malformed l = rw (← bad)
 
 -- the set-up's part of an image that was read stands before its end
 pub tail_of : (image : List ℕ) (n : ℕ) → ((i : ℕ) → get_or image i 0 < 256) → {setup : Setup} {start : ℕ}

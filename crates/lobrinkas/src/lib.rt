@@ -193,12 +193,16 @@ pub fn lobrinkas_run(
 }
 
 // Why a level waits. The image is only read.
-#[tactic(auto, unfolding(crate::specs::Calls::lobrinkas_why))]
 pub fn lobrinkas_why(image: &[u8], length: usize, level: u32) -> Told
     ensures { result ≡ lobrinkas_why image.now length level }
 {
-    match image::read_image(image, length) {
-        Err(why) => refused_told(why),
-        Ok((setup, channel)) => told_by(why::why(setup, channel, level)),
-    }
+    let Ok((setup, start)) = image::read_setup(image, length) else {
+        return refused_told(Refusal::Malformed);
+    };
+    let rest = image::read_channel(image, length, start);
+    let Ok(_) = rest.part else {
+        return refused_told(Refusal::Malformed);
+    };
+    let channel = rest.channel;
+    told_by(why::why(setup, channel, level))
 }
